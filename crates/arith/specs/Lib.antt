@@ -1,0 +1,10 @@
+pub mod Bounds
+pub mod Choice
+pub mod Exp
+pub mod Ln
+pub mod Outcome
+pub mod RootParts
+pub mod Rounding
+pub mod Scan
+pub mod Sqrt
+pub mod Sums

@@ -1,0 +1,19 @@
+-- What each case of an answer says: document 01's number, 0 where the call is accepted, and the word of its value. Definitions only.
+use Prim.Native.Nat.{ℕ}
+use mathlib.Core.Bool.{Bool, true, false}
+use lib.Ieee.{binary64, toBits}
+use Rattle.arith.specs.declared.Outcome.{Outcome}
+use Rattle.arith.specs.declared.Outcome.the-variants.{Value, Refused}
+
+abbrev pub numberOf : Outcome → ℕ
+numberOf (Value x) = 0
+numberOf (Refused n) = n
+
+abbrev pub wordOf : Outcome → ℕ
+wordOf (Value x) = toBits binary64 x
+wordOf (Refused n) = 0
+
+-- the first answer where the test holds, else the second
+abbrev pub pick : Bool → Outcome → Outcome → Outcome
+pick true a b = a
+pick false a b = b
