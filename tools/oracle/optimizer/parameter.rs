@@ -1,0 +1,7 @@
+//! Parameter ids, given by the caller: the Rust's own come from a counter.
+
+impl From<u64> for ParamId {
+    fn from(id: u64) -> Self {
+        Self(id)
+    }
+}

@@ -1,0 +1,133 @@
+//! `gen NAME COUNT SEED [--from N] [--skip-edges] [--unreadable PERCENT]`: writes lines of leaf calls.
+//! `gen --names`: writes the names of the leaves.
+//!
+//! The lines of a name are its edges and then random ones without end. A line depends on the seed
+//! and on its own number alone. `--from N` leaves out the first N lines, `--skip-edges` all edges.
+//! Of the random lines about PERCENT in a hundred cannot be read.
+
+mod draws;
+mod floats;
+mod unreadable;
+
+use splitmix::SplitMix64;
+use std::io::{self, BufWriter, Write};
+
+/// The calls of a leaf: its edges, and how to make a random one.
+enum Calls {
+    OneWord(fn() -> Vec<u64>, fn(&mut SplitMix64) -> u64),
+    Words(fn() -> Vec<Vec<u64>>, fn(&mut SplitMix64) -> Vec<u64>),
+}
+
+impl Calls {
+    fn edges(&self) -> Vec<Vec<u64>> {
+        match self {
+            Self::OneWord(edges, _) => edges().into_iter().map(|word| vec![word]).collect(),
+            Self::Words(edges, _) => edges(),
+        }
+    }
+
+    fn random(&self, rng: &mut SplitMix64) -> Vec<u64> {
+        match self {
+            Self::OneWord(_, random) => vec![random(rng)],
+            Self::Words(_, random) => random(rng),
+        }
+    }
+}
+
+/// The leaves by name. A new leaf is one more line here and the two functions that it names.
+const LEAVES: &[(&str, Calls)] = &[
+    ("next", Calls::OneWord(draws::word_edges, draws::word_random)),
+    ("unit", Calls::OneWord(draws::word_edges, draws::word_random)),
+    ("whole", Calls::Words(draws::whole_edges, draws::whole_random)),
+    ("exp", Calls::OneWord(floats::exp_edges, floats::exp_random)),
+    ("ln", Calls::OneWord(floats::ln_edges, floats::ln_random)),
+    ("sqrt", Calls::OneWord(floats::sqrt_edges, floats::sqrt_random)),
+    ("round", Calls::OneWord(floats::whole_edges, floats::whole_random)),
+    ("floor", Calls::OneWord(floats::whole_edges, floats::whole_random)),
+];
+
+struct Options {
+    name: &'static str,
+    calls: &'static Calls,
+    count: u64,
+    seed: u64,
+    from: u64,
+    skip_edges: bool,
+    unreadable_percent: u64,
+}
+
+fn parse_options(mut arguments: impl Iterator<Item = String>) -> Option<Options> {
+    let asked = arguments.next()?;
+    let (name, calls) = LEAVES.iter().find(|(name, _)| *name == asked)?;
+    let mut options = Options {
+        name,
+        calls,
+        count: parse_number(arguments.next())?,
+        seed: parse_number(arguments.next())?,
+        from: 0,
+        skip_edges: false,
+        unreadable_percent: 0,
+    };
+    while let Some(flag) = arguments.next() {
+        match flag.as_str() {
+            "--from" => options.from = parse_number(arguments.next())?,
+            "--skip-edges" => options.skip_edges = true,
+            "--unreadable" => options.unreadable_percent = parse_number(arguments.next())?,
+            _ => return None,
+        }
+    }
+    Some(options)
+}
+
+fn parse_number(argument: Option<String>) -> Option<u64> {
+    argument?.parse().ok()
+}
+
+fn line(name: &str, words: &[u64]) -> Vec<u8> {
+    let mut text = name.to_owned();
+    for word in words {
+        text += &format!(" {word:016x}");
+    }
+    text.into_bytes()
+}
+
+fn random_line(options: &Options, number: u64) -> Vec<u8> {
+    let mut rng = SplitMix64::for_line(options.seed, number);
+    let mut line = line(options.name, &options.calls.random(&mut rng));
+    if rng.below(100) < options.unreadable_percent {
+        unreadable::spoil(&mut rng, &mut line);
+    }
+    line
+}
+
+fn write_lines(options: &Options) -> io::Result<()> {
+    let mut output = BufWriter::new(io::stdout().lock());
+    let edges = options.calls.edges();
+    let skipped = if options.skip_edges { edges.len() as u64 } else { 0 };
+    let first = options.from + skipped;
+    for number in first..first + options.count {
+        let mut line = match edges.get(number as usize) {
+            Some(words) => line(options.name, words),
+            None => random_line(options, number),
+        };
+        line.push(b'\n');
+        output.write_all(&line)?;
+    }
+    output.flush()
+}
+
+fn main() -> io::Result<()> {
+    if std::env::args().nth(1).as_deref() == Some("--names") {
+        LEAVES.iter().for_each(|(name, _)| println!("{name}"));
+        return Ok(());
+    }
+    match parse_options(std::env::args().skip(1)) {
+        Some(options) => write_lines(&options),
+        None => {
+            eprintln!(
+                "usage: gen NAME COUNT SEED [--from N] [--skip-edges] [--unreadable PERCENT]"
+            );
+            std::process::exit(2);
+        }
+    }
+}
