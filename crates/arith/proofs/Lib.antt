@@ -18,6 +18,7 @@ pub mod RootValue
 pub mod RootWhole
 pub mod Scan
 pub mod Sign
+pub mod SqrtLaws
 pub mod Whole
 pub mod Within
 pub mod WordFacts

@@ -4,6 +4,7 @@ pub mod Exp
 pub mod Ln
 pub mod Outcome
 pub mod RootParts
+pub mod Rooted
 pub mod Rounding
 pub mod Scan
 pub mod Sqrt

@@ -18,6 +18,7 @@ pub use choice::positive_part;
 pub use exponential::exp;
 pub use logarithm::ln;
 pub use root::sqrt;
+pub use root::sqrt_is_rounded;
 pub use rounding::floor;
 pub use rounding::round;
 pub use sums::dot;

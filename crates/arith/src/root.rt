@@ -5,6 +5,7 @@ ghost use lib.Dec.{leb};
 ghost use lib.Ieee.{binary64, ofBits};
 ghost use Rattle.arith.specs.Sqrt.{sqrtOf};
 ghost use Rattle.arith.specs.RootParts.{Near, Pattern};
+ghost use Rattle.arith.specs.Rooted.{SqrtIsRounded};
 
 // Whether nh * 2^54 + nl is at most q * (q + 1), which has up to 107 bits. q is cut at bit 27.
 fn reaches(q: u64, nh: u64, nl: u64) -> bool
@@ -136,3 +137,8 @@ pub fn sqrt(x: f64) -> f64
         0.0 / 0.0
     }
 }
+
+// What `sqrt` computes is the correctly rounded root, at every float: a theorem on its definition, as a contract.
+pub fn sqrt_is_rounded()
+    ensures { λ _. ⌜ SqrtIsRounded ⌝ }
+{}

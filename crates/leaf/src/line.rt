@@ -1,0 +1,114 @@
+// One line: its name, its words and the leaf that it calls.
+ghost use Prim.Native.Nat.{_≤_};
+ghost use lib.ListN.{length};
+ghost use Rattle.leaf.specs.Counts.{ResultsFit, WordsFit};
+use crate::arithmetic;
+use crate::draws;
+use crate::reply::Reply;
+use crate::reply::Results;
+use word_text::Parsed;
+
+// The words of a line: how many they are, or that they are malformed.
+pub enum Read {
+    Words(usize),
+    Malformed,
+}
+
+// The line's call, made.
+pub(crate) fn answer(line: &[u8], words: &mut [u64], results: &mut Results) -> Reply
+    ensures { λ r. ⌜ ResultsFit r ⌝ }
+{
+    let end = name_end(line);
+    let read = read_words(line, end, words);
+    match read {
+        Read::Words(n) => call(&line[0..end], &words[0..n], results),
+        Read::Malformed => Reply::Unreadable,
+    }
+}
+
+// The leaf of that name, called on these words.
+fn call(name: &[u8], args: &[u64], results: &mut Results) -> Reply
+    ensures { λ r. ⌜ ResultsFit r ⌝ }
+{
+    if same(name, b"next") {
+        return draws::next(args, results);
+    }
+    if same(name, b"unit") {
+        return draws::unit(args, results);
+    }
+    if same(name, b"whole") {
+        return draws::whole(args, results);
+    }
+    if same(name, b"exp") {
+        return arithmetic::exp(args, results);
+    }
+    if same(name, b"ln") {
+        return arithmetic::ln(args, results);
+    }
+    if same(name, b"sqrt") {
+        return arithmetic::sqrt(args, results);
+    }
+    if same(name, b"round") {
+        return arithmetic::round(args, results);
+    }
+    if same(name, b"floor") {
+        return arithmetic::floor(args, results);
+    }
+    Reply::Unreadable
+}
+
+// Whether two slices hold the same bytes.
+fn same(a: &[u8], b: &[u8]) -> bool {
+    if a.len() != b.len() {
+        return false;
+    }
+    let mut i = 0;
+    while i < a.len() {
+        if a[i] != b[i] {
+            return false;
+        }
+        i += 1;
+    }
+    true
+}
+
+// Where the name ends: at the first space, or with the line.
+fn name_end(line: &[u8]) -> usize
+    ensures { λ r. ⌜ r ≤ length (now (line .entry)) ⌝ }
+{
+    let mut i = 0;
+    while i < line.len() {
+        if line[i] == b' ' {
+            return i;
+        }
+        i += 1;
+    }
+    i
+}
+
+// Reads the line's words from `from` on, a space before each, to the start of words.
+fn read_words(line: &[u8], from: usize, words: &mut [u64]) -> Read
+    requires { ⌜ from ≤ length (now line) ⌝ }
+    ensures { λ r. ⌜ WordsFit r (length (now (words .entry))) ⌝ }
+{
+    let mut at = from;
+    let mut n = 0;
+    while at < line.len() {
+        if n == words.len() {
+            return Read::Malformed;
+        }
+        if line.len() - at < 17 || line[at] != b' ' {
+            return Read::Malformed;
+        }
+        let start = at + 1;
+        let end = at + 17;
+        let p = word_text::parse(&line[start..end]);
+        match p {
+            Parsed::Word(w) => words[n] = w,
+            Parsed::Malformed => return Read::Malformed,
+        }
+        n += 1;
+        at = end;
+    }
+    Read::Words(n)
+}

@@ -1,0 +1,3 @@
+pub mod Digits
+mod Examples
+pub mod RoundTrip
