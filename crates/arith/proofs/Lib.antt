@@ -1,8 +1,10 @@
 pub mod Tests
 pub mod Horner
 pub mod LnLaws
+pub mod LnMono
 pub mod LnSize
 pub mod LnSplit
+pub mod LnTerm
 pub mod Mono
 pub mod Nearest
 pub mod Order
