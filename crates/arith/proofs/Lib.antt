@@ -1,4 +1,7 @@
 pub mod Tests
+pub mod Back
+pub mod HalfUnit
+pub mod Held
 pub mod Horner
 pub mod LnLaws
 pub mod LnMono

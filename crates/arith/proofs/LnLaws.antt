@@ -321,7 +321,7 @@ ends-53 : Ends 52 (ofInt binary64 (pos 37))
 unfolding le add mul neg ofInt ofBits
 ends-53 = record { few = tt; top = ((tt, tt, tt, tt), tt); under = ((tt, tt, tt, tt), tt); over = ((tt, tt, tt, tt), tt); bottom = ((tt, tt, tt, tt), tt); lifted = ((tt, tt, tt, tt), tt) }
 
-ends-52 : Ends 51 (ofBits binary64 0x4042266666666666)
+ends-52 : Ends 51 (ofBits binary64 0x4042066666666666)
 unfolding le add mul neg ofInt ofBits
 ends-52 = record { few = tt; top = ((tt, tt, tt, tt), tt); under = ((tt, tt, tt, tt), tt); over = ((tt, tt, tt, tt), tt); bottom = ((tt, tt, tt, tt), tt); lifted = ((tt, tt, tt, tt), tt) }
 
@@ -329,6 +329,6 @@ ends-52 = record { few = tt; top = ((tt, tt, tt, tt), tt); under = ((tt, tt, tt,
 pub ln-taken : (x : Float) → T (fits binary64 x) → Between (power (negsuc 52)) (power (pos 53)) x → Accepted (ofInt binary64 (pos 37)) x
 ln-taken = ln-within 52 (ofInt binary64 (pos 37)) ends-53
 
--- an end of a distribution on log scale: from 2 ^ -52 to 2 ^ 52, |ln x| ≤ 36.3
-pub ln-end : (x : Float) → T (fits binary64 x) → Between (power (negsuc 51)) (power (pos 52)) x → Accepted (ofBits binary64 0x4042266666666666) x
-ln-end = ln-within 51 (ofBits binary64 0x4042266666666666) ends-52
+-- an end of a distribution on log scale: from 2 ^ -52 to 2 ^ 52, |ln x| at most 36.05, so within the 36.3 of a random draw
+pub ln-end : (x : Float) → T (fits binary64 x) → Between (power (negsuc 51)) (power (pos 52)) x → Accepted (ofBits binary64 0x4042066666666666) x
+ln-end = ln-within 51 (ofBits binary64 0x4042066666666666) ends-52

@@ -11,16 +11,17 @@ use lib.Ieee.{Float, nan, inf, fin, Format, binary64, up, down, round, sum, add,
 use lib.Ieee.Fits.{down-pos}
 use lib.Ieee.Order.{round-mono}
 use lib.Ieee.Scale.{round-same, finite}
+use lib.Ieee.Positive.{den, den-pos}
 use Rattle.arith.proofs.Order as order
 use Rattle.arith.proofs.Order.{LeS, le→, neg-anti}
 use Rattle.arith.proofs.Within.{neg-round, bound}
 
 -- ---- ±x as a difference of two numbers, one of which is 0
-abbrev P : Bool → ℕ → ℕ
+abbrev pub P : Bool → ℕ → ℕ
 P true x = 0
 P false x = x
 
-abbrev N : Bool → ℕ → ℕ
+abbrev pub N : Bool → ℕ → ℕ
 N true x = x
 N false x = 0
 
@@ -106,62 +107,75 @@ round-signed false a c true b d C D h =
     let y : b ≡ 0 = nil b c C (omega arith) in
     rw (zero-round false a c C x, zero-round true b d D y) (unfold le in tt)
 
--- ---- x ≤ x' gives x + y ≤ x' + y
-balance-by : (k : ℕ) (s : Bool) (a : ℕ) (t : Bool) (b : ℕ)
-    → P (sgn s a t b) (siz s a t b * k) + (N s (a * k) + N t (b * k)) ≡ N (sgn s a t b) (siz s a t b * k) + (P s (a * k) + P t (b * k))
-balance-by k s a t b =
-    let g = sgn s a t b in
-    let m = siz s a t b in
-    let e : (P g m + (N s a + N t b)) * k ≡ (N g m + (P s a + P t b)) * k = ap (λ (z : ℕ). z * k) (balance s a t b) in
-    let l : (P g m + (N s a + N t b)) * k ≡ P g m * k + (N s a * k + N t b * k) = add-mul (P g m) (N s a + N t b) k ∙ ap (λ (z : ℕ). P g m * k + z) (add-mul (N s a) (N t b) k) in
-    let r : (N g m + (P s a + P t b)) * k ≡ N g m * k + (P s a * k + P t b * k) = add-mul (N g m) (P s a + P t b) k ∙ ap (λ (z : ℕ). N g m * k + z) (add-mul (P s a) (P t b) k) in
-    rw (P-mul g m k, N-mul g m k, P-mul s a k, P-mul t b k, N-mul s a k, N-mul t b k) (sym l ∙ e ∙ r)
+-- ---- a finite value is exactly (num⁺ - num⁻) / den, where one of the two is 0
+abbrev pub num⁺ : Float → ℕ
+num⁺ nan = 0
+num⁺ (inf s) = 0
+num⁺ (fin s m e) = P s (m * up e)
 
-order-by : (k : ℕ) (s : Bool) (x : ℕ) (t : Bool) (y : ℕ) → P s x + N t y ≤ P t y + N s x → P s (x * k) + N t (y * k) ≤ P t (y * k) + N s (x * k)
-order-by k s x t y h =
-    rw (P-mul s x k, P-mul t y k, N-mul s x k, N-mul t y k)
-    (le-trans (le-of-eq (sym (add-mul (P s x) (N t y) k))) (le-trans (mul-le-mul-right k h) (le-of-eq (add-mul (P t y) (N s x) k))))
+abbrev pub num⁻ : Float → ℕ
+num⁻ nan = 0
+num⁻ (inf s) = 0
+num⁻ (fin s m e) = N s (m * up e)
 
-linear : (X Y X' Y' u v u' v' n m : ℕ) → X + (v + n) ≡ Y + (u + m) → X' + (v' + n) ≡ Y' + (u' + m) → u + v' ≤ u' + v → X + Y' ≤ X' + Y
-linear X Y X' Y' u v u' v' n m d e h = omega arith
-
-scaled : (s : Bool) (a p : ℕ) (s' : Bool) (a' p' : ℕ) (t : Bool) (b q : ℕ) → LeS s (a * p') s' (a' * p)
-    → LeS (sgn s (a * q) t (b * p)) (siz s (a * q) t (b * p) * (p' * q)) (sgn s' (a' * q) t (b * p')) (siz s' (a' * q) t (b * p') * (p * q))
-scaled s a p s' a' p' t b q h =
-    let A : a * q * (p' * q) ≡ a * p' * (q * q) = simp (mul-assoc, mul-comm, mul-left-comm) in
-    let A' : a' * q * (p * q) ≡ a' * p * (q * q) = simp (mul-assoc, mul-comm, mul-left-comm) in
-    let B : b * p' * (p * q) ≡ b * p * (p' * q) = simp (mul-assoc, mul-comm, mul-left-comm) in
-    let M = siz s (a * q) t (b * p) * (p' * q) in
-    let M' = siz s' (a' * q) t (b * p') * (p * q) in
-    let g = sgn s (a * q) t (b * p) in
-    let g' = sgn s' (a' * q) t (b * p') in
-    →LeS g M g' M'
-    (linear (P g M) (N g M) (P g' M') (N g' M') (P s (a * p' * (q * q))) (N s (a * p' * (q * q))) (P s' (a' * p * (q * q))) (N s' (a' * p * (q * q))) (N t (b * p * (p' * q))) (P t (b * p * (p' * q)))
-    (subst (λ (z : ℕ). P g M + (N s z + N t (b * p * (p' * q))) ≡ N g M + (P s z + P t (b * p * (p' * q)))) A (balance-by (p' * q) s (a * q) t (b * p)))
-    (subst (λ (z : ℕ). P g' M' + (N s' (a' * p * (q * q)) + N t z) ≡ N g' M' + (P s' (a' * p * (q * q)) + P t z)) B
-    (subst (λ (z : ℕ). P g' M' + (N s' z + N t (b * p' * (p * q))) ≡ N g' M' + (P s' z + P t (b * p' * (p * q)))) A' (balance-by (p * q) s' (a' * q) t (b * p'))))
-    (order-by (q * q) s (a * p') s' (a' * p) (LeS→ s (a * p') s' (a' * p) h)))
-
--- for finite values; an infinite result is in order too
-pub add-left : (x x' y : Float) → T (finite x) → T (finite x') → T (finite y) → T (le x x') → T (le (add binary64 x y) (add binary64 x' y))
-unfolding le add
-add-left nan x' y F F' G h = absurd F
-add-left (inf s) x' y F F' G h = absurd F
-add-left (fin s m e) nan y F F' G h = absurd F'
-add-left (fin s m e) (inf s') y F F' G h = absurd F'
-add-left (fin s m e) (fin s' m' e') nan F F' G h = absurd G
-add-left (fin s m e) (fin s' m' e') (inf t) F F' G h = absurd G
-add-left (fin s m e) (fin s' m' e') (fin t n d) F F' G h =
+pub le-cross : (x y : Float) → T (finite x) → T (finite y) → T (le x y) → num⁺ x * den y + num⁻ y * den x ≤ num⁺ y * den x + num⁻ x * den y
+unfolding le
+le-cross (fin s m e) (fin t n d) F G h =
     let a = m * up e in
-    let a' = m' * up e' in
     let b = n * up d in
-    rw (sum-is binary64 s (a * down d) t (b * down e) (down e * down d), sum-is binary64 s' (a' * down d) t (b * down e') (down e' * down d))
-    (round-signed (sgn s (a * down d) t (b * down e)) (siz s (a * down d) t (b * down e)) (down e * down d) (sgn s' (a' * down d) t (b * down e')) (siz s' (a' * down d) t (b * down e')) (down e' * down d)
-    (mul-pos (down-pos e) (down-pos d)) (mul-pos (down-pos e') (down-pos d))
-    (scaled s a (down e) s' a' (down e') t b (down d) (le→ s (a * down e') s' (a' * down e) h)))
+    rw (P-mul s a (down d), P-mul t b (down e), N-mul s a (down d), N-mul t b (down e)) at (LeS→ s (a * down d) t (b * down e) (le→ s (a * down d) t (b * down e) h))
+
+-- ---- r is (u - v) / c, rounded
+pub record Rounded (r : Float) (u v c : ℕ) : Type 0 where
+  pub sign : Bool
+  pub size : ℕ
+  pub is : r ≡ round binary64 sign size c
+  pub value : P sign size + v ≡ N sign size + u
+
+pub rounded-mono : {r r' : Float} {u v c u' v' c' : ℕ} → Rounded r u v c → Rounded r' u' v' c' → 0 < c → 0 < c' → u * c' + v' * c ≤ u' * c + v * c' → T (le r r')
+rounded-mono {r} {r'} {u} {v} {c} {u'} {v'} {c'} x y C C' h =
+    let s = x .sign in
+    let a = x .size in
+    let t = y .sign in
+    let b = y .size in
+    let d = scale (P s a) v (N s a) u c' (x .value) in
+    let e = scale (P t b) v' (N t b) u' c (y .value) in
+    rw (x .is, y .is) (round-signed s a c t b c' C C' (→LeS s (a * c') t (b * c) (rw (P-mul s a c', P-mul t b c, N-mul s a c', N-mul t b c) (omega arith))))
+  where
+    scale : (p v n u k : ℕ) → p + v ≡ n + u → p * k + v * k ≡ n * k + u * k
+    scale p v n u k e = sym (add-mul p v k) ∙ ap (λ (z : ℕ). z * k) e ∙ add-mul n u k
+
+pub add-rounded : (x y : Float) → T (finite x) → T (finite y) → Rounded (add binary64 x y) (num⁺ x * den y + num⁺ y * den x) (num⁻ x * den y + num⁻ y * den x) (den x * den y)
+unfolding add
+add-rounded (fin s m e) (fin t n d) F G =
+    let a = m * up e in
+    let b = n * up d in
+    record {
+      sign = sgn s (a * down d) t (b * down e);
+      size = siz s (a * down d) t (b * down e);
+      is = sum-is binary64 s (a * down d) t (b * down e) (down e * down d);
+      value = rw (P-mul s a (down d), P-mul t b (down e), N-mul s a (down d), N-mul t b (down e)) at (balance s (a * down d) t (b * down e));
+    }
+
+pub sub-rounded : (x y : Float) → T (finite x) → T (finite y) → Rounded (sub binary64 x y) (num⁺ x * den y + num⁻ y * den x) (num⁻ x * den y + num⁺ y * den x) (den x * den y)
+unfolding sub neg
+sub-rounded x (fin true n d) F G = add-rounded x (fin false n d) F tt
+sub-rounded x (fin false n d) F G = add-rounded x (fin true n d) F tt
+
+-- ---- x ≤ x' gives x + y ≤ x' + y, for finite values; an infinite result is in order too
+pub add-left : (x x' y : Float) → T (finite x) → T (finite x') → T (finite y) → T (le x x') → T (le (add binary64 x y) (add binary64 x' y))
+add-left x x' y F F' G h =
+    rounded-mono (add-rounded x y F G) (add-rounded x' y F' G) (mul-pos (den-pos x) (den-pos y)) (mul-pos (den-pos x') (den-pos y))
+    (spread (num⁺ x) (num⁻ x) (den x) (num⁺ x') (num⁻ x') (den x') (num⁺ y) (num⁻ y) (den y) (le-cross x x' F F' h))
+  where
+    spread : (u v p u' v' p' w z q : ℕ) → u * p' + v' * p ≤ u' * p + v * p'
+        → (u * q + w * p) * (p' * q) + (v' * q + z * p') * (p * q) ≤ (u' * q + w * p') * (p * q) + (v * q + z * p) * (p' * q)
+    spread u v p u' v' p' w z q k =
+        let m = simp (add-mul, mul-assoc, mul-comm, mul-left-comm) at (mul-le-mul-right (q * q) k) in
+        simp (add-mul, mul-assoc, mul-comm, mul-left-comm) (omega arith)
 
 -- lo ≤ x ≤ hi gives lo - y ≤ x - y ≤ hi - y
-neg-finite : (y : Float) → T (finite y) → T (finite (neg y))
+pub neg-finite : (y : Float) → T (finite y) → T (finite (neg y))
 unfolding neg
 neg-finite nan F = F
 neg-finite (inf s) F = F

@@ -1,93 +1,31 @@
 -- The reduced argument of `exp` is at most 369/1024 in size. Assumes nothing.
 use mathlib.Core.Path.{_≡_, refl, sym, ap, _∙_, subst}
-use Prim.Native.Nat.{ℕ, zero, suc, _+_, _-_, _*_, _/_, _%_, _^_, _≤_, _<_, compare, Ordering, Ordering·lt, Ordering·eq, Ordering·gt}
-use native.Mathlib.Nat.{le-trans, le-of-eq, lt-of-lt-of-le, mul-comm, mul-assoc, mul-left-comm, mul-right-comm, mul-le-mul-right, mul-lt-mul-of-pos-right, le-of-mul-le-mul-right, mul-pos, mul-one, one-mul, add-mul, mul-add, div-add-mod', mod-lt, div-lt-iff-lt-mul, eq-of-mul-eq-mul-right}
+use Prim.Native.Nat.{ℕ, _+_, _-_, _*_, _/_, _%_, _^_, _≤_, _<_}
+use native.Mathlib.Nat.{le-trans, le-of-eq, lt-of-lt-of-le, mul-comm, mul-assoc, mul-left-comm, mul-le-mul-right, mul-lt-mul-of-pos-right, le-of-mul-le-mul-right, mul-pos, mul-one, one-mul, add-mul, mul-add, div-add-mod', mod-lt, eq-of-mul-eq-mul-right}
 use native.Mathlib.Omega.{arith}
 use mathlib.Core.Bool.{Bool, true, false, not, cond}
-use lib.Dec.{T, isLe, isEq, ltb, leb→le, nleb→lt, eqb→eq, lit≤}
+use lib.Dec.{T, ltb, lit≤}
 use lib.Pow.{pow-add, pow-pos, pow-mono}
 use lib.IntN.{ℤ, pos, negsuc}
-use lib.Ieee.{Float, nan, inf, fin, binary64, up, down, size, nearest, unlike, round, sum, add, sub, mul, neg, le, ofBits}
-use lib.Ieee.Digits.{size-le}
+use lib.Ieee.{Float, nan, inf, fin, binary64, up, down, unlike, round, sum, add, sub, mul, neg, le, ofBits}
 use lib.Ieee.Fits.{down-pos}
 use lib.Ieee.Exact.{HasValue, round-exact}
 use lib.Ieee.Back.{round-whole}
-use lib.Ieee.Nearest.{closest, div-same}
-use lib.Ieee.Order.{drop, kept, round-mono}
-use lib.Ieee.Scale.{grid, round-val, round-under, finite}
+use lib.Ieee.Order.{round-mono}
+use lib.Ieee.Scale.{finite}
+use lib.Ieee.Positive.{num, den, den-pos}
 use Rattle.arith.specs.Bounds.{Within, abs, negative}
 use Rattle.arith.proofs.Within.{abs-round, cross, mul-in, sub-in, within-finite}
 use Rattle.arith.specs.Rounding.{nearestOf, roundOf}
 use Rattle.arith.specs.Exp.{reducedOf, H, L, log2e}
+use Rattle.arith.proofs.HalfUnit.{half-unit}
 use Rattle.arith.proofs.Nearest.{nearest-at-most}
 use Rattle.arith.proofs.ExpRange.{product-pos, product-sign}
 
--- ---- rounding to the nearest whole number is off by a half at most
-around : (u q r : ℕ) (o : Ordering) → r < u → (T (isLe o) → r * 2 ≤ u) → (T (not (isLe o)) → u < r * 2) → (T (isEq o) → r * 2 ≡ u)
-    → (2 * (nearest q o * u) ≤ 2 * (q * u + r) + u) × (2 * (q * u + r) ≤ 2 * (nearest q o * u) + u)
-around u q r Ordering·lt l a b e = let h = a tt in (omega arith, omega arith)
-around u q r Ordering·gt l a b e =
-    let h = b tt in
-    let s : suc q * u ≡ q * u + u = ap (λ (x : ℕ). x * u) (let z : suc q ≡ q + 1 = omega arith in z) ∙ add-mul q 1 u ∙ ap (λ (x : ℕ). q * u + x) (one-mul u) in
-    (omega arith, omega arith)
-around u q r Ordering·eq l a b e =
-    let h = e tt in
-    go (q % 2) (let m : q % 2 < 2 = omega arith in m)
-  where
-    go : (k : ℕ) → k < 2 → (2 * ((q + k) * u) ≤ 2 * (q * u + r) + u) × (2 * (q * u + r) ≤ 2 * ((q + k) * u) + u)
-    go zero l' = let s : (q + 0) * u ≡ q * u = ap (λ (x : ℕ). x * u) (let z : q + 0 ≡ q = omega arith in z) in let h = e tt in (omega arith, omega arith)
-    go (suc zero) l' = let s : (q + 1) * u ≡ q * u + u = add-mul q 1 u ∙ ap (λ (x : ℕ). q * u + x) (one-mul u) in let h = e tt in (omega arith, omega arith)
-    go (suc (suc k)) l' = absurd (no l')
-      where
-        no : suc (suc k) < 2 → ⊥
-        no x = omega arith
-
-closest-error : (n u : ℕ) → 0 < u → (2 * (closest n u * u) ≤ 2 * n + u) × (2 * n ≤ 2 * (closest n u * u) + u)
-closest-error n u U =
-    subst (λ (x : ℕ). (2 * (closest n u * u) ≤ 2 * x + u) × (2 * x ≤ 2 * (closest n u * u) + u)) (div-add-mod' n u)
-    (around u (n / u) (n % u) (compare (n % u * 2) u) (mod-lt n U) (leb→le (n % u * 2) u) (nleb→lt (n % u * 2) u) (eqb→eq (n % u * 2) u))
-
--- ---- n0 / d0, below 1024, rounded: off by 2 ^ -21 at most (and by less)
-abbrev W : ℕ
-W = 2 ^ 1074
-
-module _ (n0 d0 : ℕ) (D : 0 < d0) (small : n0 < 1024 * d0) where
-  dr : ℕ
-  dr = drop 53 (n0 * 2 ^ 1074) d0
-
-  few : 2 ^ dr * 2 ^ 20 ≤ 2 ^ 1074
-  unfolding dr
-  few =
-      let s : size (n0 * 2 ^ 1074 / d0) ≤ 1084 = size-le (n0 * 2 ^ 1074 / d0) 1084 (div-lt-iff-lt-mul D .1 (lt-of-lt-of-le (mul-lt-mul-of-pos-right small (pow-pos 1074)) (le-of-eq (mul-right-comm 1024 d0 (2 ^ 1074))))) in
-      le-trans (le-of-eq (sym (pow-add 2 dr 20))) (pow-mono {i = dr + 20} {j = 1074} (omega arith))
-
-  error : (2 * (grid binary64 n0 d0 * d0) * 2 ^ 20 ≤ 2 * (n0 * 2 ^ 1074) * 2 ^ 20 + d0 * 2 ^ 1074) × (2 * (n0 * 2 ^ 1074) * 2 ^ 20 ≤ 2 * (grid binary64 n0 d0 * d0) * 2 ^ 20 + d0 * 2 ^ 1074)
-  unfolding dr
-  error =
-      let k = kept 53 (n0 * 2 ^ 1074) d0 in
-      let c = closest-error (n0 * 2 ^ 1074) (d0 * 2 ^ dr) (mul-pos D (pow-pos dr)) in
-      let g : k * (d0 * 2 ^ dr) ≡ grid binary64 n0 d0 * d0 = simp (mul-assoc, mul-comm, mul-left-comm) in
-      let f : d0 * 2 ^ dr * 2 ^ 20 ≤ d0 * 2 ^ 1074 = le-trans (le-of-eq (mul-assoc d0 (2 ^ dr) (2 ^ 20))) (le-trans (le-of-eq (mul-comm d0 (2 ^ dr * 2 ^ 20))) (le-trans (mul-le-mul-right d0 few) (le-of-eq (mul-comm (2 ^ 1074) d0)))) in (
-        go (2 * (grid binary64 n0 d0 * d0)) (2 * (n0 * 2 ^ 1074)) (d0 * 2 ^ dr) (d0 * 2 ^ 1074) (subst (λ (x : ℕ). 2 * x ≤ 2 * (n0 * 2 ^ 1074) + d0 * 2 ^ dr) g (c .0)) f,
-        go (2 * (n0 * 2 ^ 1074)) (2 * (grid binary64 n0 d0 * d0)) (d0 * 2 ^ dr) (d0 * 2 ^ 1074) (subst (λ (x : ℕ). 2 * (n0 * 2 ^ 1074) ≤ 2 * x + d0 * 2 ^ dr) g (c .1)) f,
-      )
-    where
-      go : (a b u w : ℕ) → a ≤ b + u → u * 2 ^ 20 ≤ w → a * 2 ^ 20 ≤ b * 2 ^ 20 + w
-      go a b u w h k = omega arith
-
--- ---- the whole number nearest to G / w
-grid-cross : (N D G w : ℕ) → N * w ≡ G * D → (2 * N + D) * (2 * w) ≡ (2 * G + w) * (2 * D)
-grid-cross N D G w h =
-    let a : (2 * N + D) * (2 * w) ≡ 4 * (N * w) + 2 * (D * w) = simp (mul-add, add-mul, mul-assoc, mul-comm, mul-left-comm) (omega arith) in
-    let b : (2 * G + w) * (2 * D) ≡ 4 * (G * D) + 2 * (D * w) = simp (mul-add, add-mul, mul-assoc, mul-comm, mul-left-comm) (omega arith) in
-    a ∙ ap (λ (x : ℕ). 4 * x + 2 * (D * w)) h ∙ sym b
-
-nearest-grid : (y : Float) (G : ℕ) → HasValue (abs y) false G W → nearestOf y ≡ (2 * G + W) / (2 * W)
+-- ---- the whole number nearest to t, by t's own fraction
+nearest-is : (t : Float) → T (finite t) → nearestOf t ≡ (2 * num (abs t) + den (abs t)) / (2 * den (abs t))
 unfolding nearestOf
-nearest-grid nan G v = absurd v
-nearest-grid (inf s) G v = absurd v
-nearest-grid (fin s m e) G v =
-    div-same (2 * (m * up e) + down e) (2 * down e) (2 * G + W) (2 * W) (mul-pos (pow-pos 1) (down-pos e)) (mul-pos (pow-pos 1) (pow-pos 1074)) (grid-cross (m * up e) (down e) G W (v .1))
+nearest-is (fin s m e) F = refl
 
 half-off : (G w : ℕ) → 0 < w → (2 * ((2 * G + w) / (2 * w) * w) ≤ 2 * G + w) × (2 * G ≤ 2 * ((2 * G + w) / (2 * w) * w) + w)
 half-off G w P = go ((2 * G + w) / (2 * w)) ((2 * G + w) % (2 * w)) (div-add-mod' (2 * G + w) (2 * w)) (mod-lt (2 * G + w) (mul-pos (pow-pos 1) P))
@@ -95,7 +33,10 @@ half-off G w P = go ((2 * G + w) / (2 * w)) ((2 * G + w) % (2 * w)) (div-add-mod
     go : (q r : ℕ) → q * (2 * w) + r ≡ 2 * G + w → r < 2 * w → (2 * (q * w) ≤ 2 * G + w) × (2 * G ≤ 2 * (q * w) + w)
     go q r e l = let a : q * (2 * w) ≡ 2 * (q * w) = mul-left-comm q 2 w in (omega arith, omega arith)
 
--- ---- so n is within 1/2 + 2 ^ -21 of n0 / d0
+-- ---- n0 / d0, below 1024, rounded is off by 2 ^ -21 at most (and by less), so n is within 1/2 + 2 ^ -21 of it
+loose : (x y z : ℕ) → x * 2 ^ 54 ≤ y * 2 ^ 54 + 2 ^ 10 * z → 2 * x * 2 ^ 20 ≤ 2 * y * 2 ^ 20 + z
+loose x y z h = omega arith
+
 star : (n0 d0 G n w : ℕ) → 0 < w
     → 2 * (G * d0) * 2 ^ 20 ≤ 2 * (n0 * w) * 2 ^ 20 + d0 * w → 2 * (n0 * w) * 2 ^ 20 ≤ 2 * (G * d0) * 2 ^ 20 + d0 * w
     → 2 * (n * w) ≤ 2 * G + w → 2 * G ≤ 2 * (n * w) + w
@@ -283,19 +224,19 @@ remainder (fin s m e) w =
     let n = nearestOf t in
     let l : n ≤ 1023 = nearest-at-most 1023 t wt in
     let at : abs t ≡ round binary64 false n0 d0 = mul-abs s m e in
-    let G = grid binary64 n0 d0 in
-    let F : T (finite (round binary64 false n0 d0)) = subst (λ (z : Float). T (finite z)) at (abs-finite t (within-finite (fin false 8187 (negsuc 2)) t tt wt)) in
-    let v : HasValue (abs t) false G W = subst (λ (z : Float). HasValue z false G W) (sym at) (round-val binary64 n0 d0 (round-under binary64 n0 d0 F)) in
-    let nn : n ≡ (2 * G + W) / (2 * W) = nearest-grid t G v in
-    let ho = half-off G W (pow-pos 1074) in
-    let er = error n0 d0 D small in
-    let st = star n0 d0 G n W (pow-pos 1074) (er .0) (er .1) (subst (λ (k : ℕ). 2 * (k * W) ≤ 2 * G + W) (sym nn) (ho .0)) (subst (λ (k : ℕ). 2 * G ≤ 2 * (k * W) + W) (sym nn) (ho .1)) in
+    let F = within-finite (fin false 8187 (negsuc 2)) t tt wt in
+    let G = num (abs t) in
+    let W = den (abs t) in
+    let er = half-unit 10 n0 d0 D small (abs t) at (abs-finite t F) in
+    let ho = half-off G W (den-pos (abs t)) in
+    let nn = nearest-is t F in
+    let st = star n0 d0 G n W (den-pos (abs t)) (loose (G * d0) (n0 * W) (d0 * W) (er .0)) (loose (n0 * W) (G * d0) (d0 * W) (er .1)) (subst (λ (k : ℕ). 2 * (k * W) ≤ 2 * G + W) (sym nn) (ho .0)) (subst (λ (k : ℕ). 2 * G ≤ 2 * (k * W) + W) (sym nn) (ho .1)) in
     let q = n * p in
     let qe : n * d0 ≡ q * 2251799813685248 = sym (mul-assoc n p 2251799813685248) in
     let ql : q ≤ 1023 * p = mul-le-mul-right p l in
     let lo = gap-low A p q ql (coarse-high A p q (shape-high A p q (n * d0) qe (st .1))) in
     let hi = gap-high A p q ql (coarse-low A p q (shape-low A p q (n * d0) qe (st .0))) in
-    subst (λ (k : Float). Within (fin false 369 (negsuc 9)) (reducedOf (fin s m e) k)) (ap (λ (u : Bool). round binary64 u n 1) (sym (product-sign s m e)) ∙ round-is t (within-finite (fin false 8187 (negsuc 2)) t tt wt))
+    subst (λ (k : Float). Within (fin false 369 (negsuc 9)) (reducedOf (fin s m e) k)) (ap (λ (u : Bool). round binary64 u n 1) (sym (product-sign s m e)) ∙ round-is t F)
     (finish (fin s m e) s n l (first-step s m e (mul binary64 (kf s n) H) n (product s n (kf s n) l (round-whole binary64 s n (le-trans l (lit≤ tt)))) lo hi))
   where
     mul-abs : (s : Bool) (m : ℕ) (e : ℤ) → abs (mul binary64 (fin s m e) log2e) ≡ round binary64 false (m * up e * 3248660424278399) (down e * 2251799813685248)

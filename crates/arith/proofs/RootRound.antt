@@ -1,13 +1,11 @@
 -- From the whole number nearest to a root to the float. Assumes nothing.
-use mathlib.Core.Path.{_≡_, refl, sym, ap, _∙_, subst}
-use mathlib.Core.Logic.{_⊎_, inl, inr}
-use Prim.Native.Nat.{ℕ, suc, _+_, _-_, _*_, _/_, _%_, _^_, _≤_, _<_, compare, Ordering, Ordering·lt, Ordering·eq, Ordering·gt}
-use native.Mathlib.Nat.{le-trans, le-of-eq, le-antisymm, eq-or-lt-of-le, lt-of-le-of-lt, lt-of-lt-of-le, lt-of-not-le, not-le-of-lt, le-of-suc-le-suc, mul-le-mul-right, mul-lt-mul-of-pos-right, mul-comm, mul-assoc, mul-left-comm, mul-add, add-mul, mul-pos, one-mul, div-add-mod', mod-lt, le-div-iff-mul-le, div-lt-iff-lt-mul, mul-div-cancel, zero-add, pow-succ'}
+use mathlib.Core.Path.{_≡_, sym, ap, _∙_, subst}
+use Prim.Native.Nat.{ℕ, suc, _+_, _-_, _*_, _/_, _^_, _≤_, _<_}
+use native.Mathlib.Nat.{le-trans, le-of-eq, le-antisymm, lt-of-le-of-lt, lt-of-lt-of-le, lt-of-not-le, not-le-of-lt, lt-of-mul-lt-mul-right, mul-le-mul-right, mul-lt-mul-of-pos-right, mul-assoc, mul-left-comm, add-mul, mul-pos, one-mul, le-div-iff-mul-le, div-lt-iff-lt-mul, mul-div-cancel, zero-add, pow-succ'}
 use native.Mathlib.Omega.{arith}
-use mathlib.Core.Bool.{true, false, not, true≢false}
-use lib.Dec.{T, isLe, isEq, leb→le, nleb→lt, eqb→eq}
+use mathlib.Core.Bool.{true, false, true≢false}
 use lib.Pow.{pow-add, pow-pos, pow-mono}
-use lib.Ieee.{Float, nan, inf, fin, binary64, up, down, size, nearest, round, toBits, ofBits}
+use lib.Ieee.{Float, nan, inf, fin, binary64, up, down, size, round, toBits, ofBits}
 use lib.Ieee.Digits.{size-lt, size-le}
 use lib.Ieee.Fits.{round-fits, down-pos}
 use lib.Ieee.Bits.{ofBits-toBits}
@@ -15,61 +13,17 @@ use lib.Ieee.Exact.{HasValue}
 use lib.Ieee.Nearest.{closest}
 use lib.Ieee.Order.{drop, kept}
 use lib.Ieee.Scale.{grid, overflow, round-val}
+use Rattle.arith.proofs.HalfUnit.{closest-error}
 
 -- ---- a fraction n / u strictly within a half of p + 1
-at-lt : (a b q : ℕ) → a < b → nearest q (compare a b) ≡ q
-at-lt a b q h = go (compare a b) (nleb→lt a b) (eqb→eq a b)
-  where
-    no : (b < a) ⊎ (a ≡ b) → ⊥
-    no (inl k) = omega arith
-    no (inr e) = omega arith
-
-    go : (o : Ordering) → (T (not (isLe o)) → b < a) → (T (isEq o) → a ≡ b) → nearest q o ≡ q
-    go Ordering·lt k e = refl
-    go Ordering·eq k e = absurd (no (inr (e tt)))
-    go Ordering·gt k e = absurd (no (inl (k tt)))
-
-at-gt : (a b q : ℕ) → b < a → nearest q (compare a b) ≡ suc q
-at-gt a b q h = go (compare a b) (leb→le a b)
-  where
-    no : a ≤ b → ⊥
-    no k = omega arith
-
-    go : (o : Ordering) → (T (isLe o) → a ≤ b) → nearest q o ≡ suc q
-    go Ordering·lt k = absurd (no (k tt))
-    go Ordering·eq k = absurd (no (k tt))
-    go Ordering·gt k = refl
-
 closest-near : (n u p : ℕ) → 0 < u → (2 * p + 1) * u < 2 * n → 2 * n < (2 * p + 3) * u → closest n u ≡ suc p
-closest-near n u p U lo hi = go (n / u) (n % u) (div-add-mod' n u) (mod-lt n U)
-  where
-    go : (q r : ℕ) → q * u + r ≡ n → r < u → nearest q (compare (r * 2) u) ≡ suc p
-    go q r e l =
-        let lo' : (2 * p + 1) * u ≡ 2 * (p * u) + u = simp (mul-add, add-mul, mul-assoc, mul-comm, mul-left-comm) (omega arith) in
-        let hi' : (2 * p + 3) * u ≡ 2 * (p * u) + 3 * u = simp (mul-add, add-mul, mul-assoc, mul-comm, mul-left-comm) (omega arith) in
-        pick
-        (let a : p * u < suc q * u = subst (λ (x : ℕ). p * u < x) (sym (add-mul q 1 u ∙ ap (λ (x : ℕ). q * u + x) (one-mul u)) ∙ ap (λ (x : ℕ). x * u) (let s : q + 1 ≡ suc q = omega arith in s)) (omega arith) in cancel p (suc q) a)
-        (let a : q * u < (p + 2) * u = subst (λ (x : ℕ). q * u < x) (sym (add-mul p 2 u)) (omega arith) in cancel q (p + 2) a)
-      where
-        cancel : (a b : ℕ) → a * u < b * u → a < b
-        cancel a b h = lt-of-not-le (λ (g : b ≤ a). not-le-of-lt h (mul-le-mul-right u g))
-
-        is-p : q ≡ p → nearest q (compare (r * 2) u) ≡ suc p
-        is-p f = at-gt (r * 2) u q (let a = ap (λ (x : ℕ). x * u) f in let lo' : (2 * p + 1) * u ≡ 2 * (p * u) + u = simp (mul-add, add-mul, mul-assoc, mul-comm, mul-left-comm) (omega arith) in omega arith) ∙ ap suc f
-
-        is-suc : q ≡ suc p → nearest q (compare (r * 2) u) ≡ suc p
-        is-suc f =
-            at-lt (r * 2) u q
-            (let a : q * u ≡ p * u + u = ap (λ (x : ℕ). x * u) (f ∙ (let s : suc p ≡ p + 1 = omega arith in s)) ∙ add-mul p 1 u ∙ ap (λ (x : ℕ). p * u + x) (one-mul u) in
-            let hi' : (2 * p + 3) * u ≡ 2 * (p * u) + 3 * u = simp (mul-add, add-mul, mul-assoc, mul-comm, mul-left-comm) (omega arith) in
-            omega arith)
-            ∙ f
-
-        which : p < suc q → q < p + 2 → (q ≡ p) ⊎ (q ≡ suc p)
-        which a b = elim (eq-or-lt-of-le (le-of-suc-le-suc a)) [ inl e ↦ inl (sym e) | inr k ↦ inr (omega arith) ]
-
-        pick : p < suc q → q < p + 2 → nearest q (compare (r * 2) u) ≡ suc p
-        pick a b = elim (which a b) [ inl f ↦ is-p f | inr f ↦ is-suc f ]
+closest-near n u p U lo hi =
+    let e = closest-error n u U in
+    let lo' : (2 * p + 1) * u ≡ 2 * (p * u) + u = simp (add-mul, mul-assoc, one-mul) in
+    let hi' : (2 * p + 3) * u ≡ 2 * (p * u) + 3 * u = simp (add-mul, mul-assoc) in
+    let a : p < closest n u = lt-of-mul-lt-mul-right u (omega arith) in
+    let b : closest n u < p + 2 = lt-of-mul-lt-mul-right u (let d : (p + 2) * u ≡ p * u + 2 * u = add-mul p 2 u in omega arith) in
+    omega arith
 
 -- ---- how many digits
 pow-cancel : (a l : ℕ) → 2 ^ a < 2 ^ l → a < l

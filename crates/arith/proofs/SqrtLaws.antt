@@ -1,24 +1,28 @@
 -- The square root's definition is correctly rounded, and nothing else is: all fractions strictly between s / 2 ^ 600 and (s + 1) / 2 ^ 600 round alike, so the root and what `halves` has in its place do. Assumes nothing.
 use mathlib.Core.Path.{_≡_, refl, sym, ap, _∙_, subst}
 use mathlib.Core.Logic.{_↔_, _⊎_, inl, inr}
-use Prim.Native.Nat.{ℕ, zero, suc, _+_, _-_, _*_, _/_, _%_, _^_, _≤_, _<_, compare, Ordering, Ordering·lt, Ordering·eq, Ordering·gt}
-use native.Mathlib.Nat.{add-zero, zero-lt-suc, le-refl, le-trans, le-of-eq, le-of-lt, le-antisymm, lt-irrefl, lt-of-le-of-lt, lt-of-lt-of-le, lt-of-not-le, not-le-of-lt, mul-le-mul, mul-le-mul-right, mul-lt-mul-of-pos-right, le-of-mul-le-mul-right, lt-of-mul-lt-mul-right, mul-one, mul-comm, mul-assoc, mul-left-comm, mul-right-comm, mul-pos, div-add-mod', div-mul-le-self, lt-div-mul-add, mod-lt, le-div-iff-mul-le, div-lt-iff-lt-mul}
+use Prim.Native.Nat.{ℕ, zero, suc, _+_, _-_, _*_, _/_, _^_, _≤_, _<_}
+use native.Mathlib.Nat.{add-zero, zero-lt-suc, le-refl, le-trans, le-of-eq, le-of-lt, le-antisymm, lt-irrefl, lt-of-le-of-lt, lt-of-lt-of-le, lt-of-not-le, not-le-of-lt, mul-le-mul, mul-le-mul-right, mul-lt-mul-of-pos-right, le-of-mul-le-mul-right, lt-of-mul-lt-mul-right, mul-one, mul-comm, mul-assoc, mul-left-comm, mul-right-comm, mul-pos, add-mul, one-mul, div-mul-le-self, lt-div-mul-add, le-div-iff-mul-le, div-lt-iff-lt-mul}
 use native.Mathlib.Omega.{arith}
-use mathlib.Core.Bool.{true, false, not, _&&_}
-use lib.Dec.{T, isLe, isEq, leb, ltb, eqb, leb→le, nleb→lt, eqb→eq, ltb→lt, nltb→le}
+use mathlib.Core.Bool.{true, false}
+use lib.Dec.{T, leb, ltb, leb→le, nleb→lt, ltb→lt, nltb→le}
 use lib.Pow.{pow-add, pow-pos, pow-mono}
 use lib.IntN.{ℤ}
-use lib.Ieee.{Float, nan, inf, fin, binary64, up, down, size, nearest, units, round, le, fits, toBits, ofBits}
-use lib.Ieee.Bits.{is-true, is-false, ofBits-toBits}
+use lib.Ieee.{Float, nan, fin, binary64, up, down, size, units, round, le, fits}
+use lib.Ieee.Bits.{is-true, is-false}
 use lib.Ieee.Digits.{size-lt, size-le, size-reaches}
-use lib.Ieee.Fits.{round-is, round-fits, down-pos, and-r}
-use lib.Ieee.Nearest.{closest, div-same}
+use lib.Ieee.Exact.{HasValue}
+use lib.Ieee.Fits.{round-is, round-fits, down-pos}
+use lib.Ieee.Nearest.{closest}
 use lib.Ieee.Order.{drop, kept, round-mono}
 use lib.Ieee.Positive as positive
 use lib.Ieee.Positive.{num, den}
 use lib.Ieee.Scale.{round-same}
 use Rattle.arith.specs.Sqrt.{halves, isqrt, rootOf, sqrtOf}
 use Rattle.arith.specs.Rooted.{Rooted, SqrtIsRounded}
+use Rattle.arith.proofs.HalfUnit.{closest-error}
+use Rattle.arith.proofs.Held as held
+use Rattle.arith.proofs.Held.{below-end}
 use Rattle.arith.proofs.Nearest.{grid-form}
 use Rattle.arith.proofs.RootValue.{sqrt-value}
 use Rattle.arith.proofs.RootWhole.{Root, isqrt-root, sq-lt}
@@ -29,15 +33,12 @@ rounded p q = round binary64 false p q
 
 -- ---- the whole number nearest to a / u, which lies strictly between g / 2 and (g + 1) / 2
 closest-is : (a u g : ℕ) → 0 < u → g * u < 2 * a → 2 * a < (g + 1) * u → closest a u ≡ (g + 1) / 2
-closest-is a u g U lo hi = go (a / u) (a % u) (div-add-mod' a u) (mod-lt a U) (compare (a % u * 2) u) (leb→le (a % u * 2) u) (nleb→lt (a % u * 2) u) (eqb→eq (a % u * 2) u)
-  where
-    cancel : (b c : ℕ) → b * u < c * u → b < c
-    cancel b c h = lt-of-mul-lt-mul-right u h
-
-    go : (q r : ℕ) → q * u + r ≡ a → r < u → (o : Ordering) → (T (isLe o) → r * 2 ≤ u) → (T (not (isLe o)) → u < r * 2) → (T (isEq o) → r * 2 ≡ u) → nearest q o ≡ (g + 1) / 2
-    go q r e l Ordering·lt le gt eq = let h = le tt in let x = cancel g (2 * q + 1) (omega arith) in let y = cancel (2 * q) (g + 1) (omega arith) in omega arith
-    go q r e l Ordering·eq le gt eq = let h = eq tt in let x = cancel g (2 * q + 1) (omega arith) in let y = cancel (2 * q + 1) (g + 1) (omega arith) in omega arith
-    go q r e l Ordering·gt le gt eq = let h = gt tt in let x = cancel g (2 * q + 2) (omega arith) in let y = cancel (2 * q + 1) (g + 1) (omega arith) in omega arith
+closest-is a u g U lo hi =
+    let e = closest-error a u U in
+    let hi' : (g + 1) * u ≡ g * u + u = add-mul g 1 u ∙ ap (λ (y : ℕ). g * u + y) (one-mul u) in
+    let x : g < 2 * closest a u + 1 = lt-of-mul-lt-mul-right u (let d : (2 * closest a u + 1) * u ≡ 2 * (closest a u * u) + u = simp (add-mul, mul-assoc, one-mul) in omega arith) in
+    let y : 2 * closest a u < g + 2 = lt-of-mul-lt-mul-right u (let d : 2 * closest a u * u ≡ 2 * (closest a u * u) = mul-assoc 2 (closest a u) u in let f : (g + 2) * u ≡ g * u + 2 * u = add-mul g 2 u in omega arith) in
+    omega arith
 
 size-gt : (n j : ℕ) → 2 ^ j ≤ n → j < size n
 size-gt n j h = lt-of-not-le (λ (g : size n ≤ j). not-le-of-lt (lt-of-lt-of-le (size-lt n) (pow-mono g)) h)
@@ -223,24 +224,13 @@ module _ (n s : ℕ) (r : Root n s) (big : 2 ^ 53 ≤ s) where
       by p q p' q' Q Q' e e' h h' = (subst (λ (z : Float). T (le z y)) (sym e) (f p q Q h), subst (λ (z : Float). T (le y z)) (sym e') (g p' q' Q' h'))
 
 -- ---- values that fit and are the same number are the same
-same-bits : (x y : Float) → T (positive.positive x) → T (positive.positive y) → num x * den y ≡ num y * den x → toBits binary64 x ≡ toBits binary64 y
-unfolding toBits
-same-bits nan y p q h = absurd p
-same-bits (inf s) y p q h = absurd p
-same-bits (fin true m e) y p q h = absurd p
-same-bits (fin false m e) nan p q h = absurd q
-same-bits (fin false m e) (inf t) p q h = absurd q
-same-bits (fin false m e) (fin true n d) p q h = absurd q
-same-bits (fin false m e) (fin false n d) p q h =
-    let l = 2 ^ 1074 in
-    ap (λ (w : ℕ). 0 + (size w - 53) * 4503599627370496 + w / 2 ^ (size w - 53))
-    (div-same (m * up e * l) (down e) (n * up d * l) (down d) (down-pos e) (down-pos d) (mul-right-comm (m * up e) l (down d) ∙ ap (λ (w : ℕ). w * l) h ∙ mul-right-comm (n * up d) (down e) l))
+value-of : (x y : Float) → T (positive.positive y) → num x * den y ≡ num y * den x → HasValue y false (num x) (den x)
+value-of x (fin false n d) q h = (refl, sym h)
 
 same-value : (x y : Float) → T (fits binary64 x) → T (fits binary64 y) → T (positive.positive x) → T (positive.positive y) → T (le x y) → T (le y x) → x ≡ y
 same-value x y f g p q h k =
-    sym (ofBits-toBits binary64 x f)
-    ∙ ap (λ (b : ℕ). ofBits binary64 b) (same-bits x y p q (le-antisymm (positive.le→cross x y p q h) (positive.le→cross y x q p k)))
-    ∙ ofBits-toBits binary64 y g
+    held.same-value binary64 x y false (num x) (den x) (positive.den-pos x) f g (positive.own-value x p)
+    (value-of x y q (le-antisymm (positive.le→cross x y p q h) (positive.le→cross y x q p k)))
 
 -- ---- a root from 2 ^ -537 to 2 ^ 512 is finite and above zero
 is-positive : (n : ℕ) (y : Float) → 2 ^ 126 ≤ n → n < 4 ^ 1112 → Below n y → Above n y → T (positive.positive y)
@@ -296,17 +286,13 @@ module _ (m : ℕ) (e : ℤ) (t : T (fits binary64 (fin false (suc m) e))) where
       ∙ ap (λ (y : ℕ). y * 2 ^ 126) (sym units-of)
       ∙ mul-assoc (suc m * up e) (2 ^ 1074) (2 ^ 126)
 
-  finite : suc m * up e < 2 ^ 1024 * down e
-  unfolding fits
-  finite = ltb→lt (suc m * up e) (2 ^ 1024 * down e) (and-r (eqb (suc m % 2) 1 && ltb (suc m) (2 ^ 53) && leb (down e) (2 ^ 1074)) (ltb (suc m * up e) (2 ^ 1024 * down e)) t)
-
   least : 2 ^ 126 ≤ n
   least = mul-le-mul (zero-lt-suc m) (pow-mono {i = 126} {j = j + 126} (omega arith))
 
   most : n < 4 ^ 1112
   most =
       lt-of-mul-lt-mul-right (down e)
-      (lt-of-le-of-lt (le-of-eq scaled) (lt-of-lt-of-le (mul-lt-mul-of-pos-right finite (pow-pos 1200)) (le-of-eq (mul-right-comm (2 ^ 1024) (down e) (2 ^ 1200)))))
+      (lt-of-le-of-lt (le-of-eq scaled) (lt-of-lt-of-le (mul-lt-mul-of-pos-right (below-end binary64 false (suc m) e t) (pow-pos 1200)) (le-of-eq (mul-right-comm (2 ^ 1024) (down e) (2 ^ 1200)))))
 
   is-root : Root n s
   is-root = isqrt-root 1112 n most

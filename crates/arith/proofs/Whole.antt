@@ -2,46 +2,28 @@
 use mathlib.Core.Path.{_≡_, refl, sym, ap, _∙_, subst}
 use mathlib.Core.Logic.{_⊎_, inl, inr}
 use Prim.Native.Nat.{ℕ, zero, suc, _+_, _-_, _*_, _/_, _%_, _^_, _≤_, _<_, min, zero-le}
-use native.Mathlib.Nat.{le-trans, le-of-eq, lt-of-le-of-lt, lt-of-lt-of-le, mul-one, one-mul, mul-assoc, mul-pos, zero-mul, mul-lt-mul-of-pos-right, add-comm, zero-lt-suc, div-one, pow-succ', le-of-suc-le-suc, div-lt-iff-lt-mul, add-mul-div-right, div-eq-of-lt, zero-add, div-add-mod', mod-lt, add-mul, div-eq-of-lt-le, eq-of-mul-eq-mul-right, mul-right-comm}
+use native.Mathlib.Nat.{le-trans, le-of-eq, lt-of-le-of-lt, mul-one, one-mul, mul-pos, add-comm, zero-lt-suc, div-one, pow-succ', le-of-suc-le-suc, div-lt-iff-lt-mul, add-mul-div-right, div-eq-of-lt, zero-add, div-add-mod', mod-lt, add-mul, div-eq-of-lt-le, eq-of-mul-eq-mul-right, mul-right-comm}
 use native.Mathlib.Omega.{arith}
-use mathlib.Core.Bool.{Bool, true, false, not, _&&_, true≢false}
-use lib.Dec.{T, ltb, leb, eqb, ltb→lt, eqb→eq, lit≤, le→leb, T-not}
-use lib.Pow.{pow-add, pow-pos}
+use mathlib.Core.Bool.{Bool, true, false, not, true≢false}
+use lib.Dec.{T, eqb, eqb→eq, lit≤, le→leb, T-not}
+use lib.Pow.{pow-pos}
 use lib.IntN.{ℤ, pos, negsuc}
 use lib.Ieee.{Float, nan, inf, fin, binary64, up, down, round, neg, lt, le, eq, fits, ofBits, isNan, ofInt, toUnsigned, inFloat}
-use lib.Ieee.Fits.{down-pos, and-l, and-r, and-i, eq→eqb, round-fits}
-use lib.Ieee.Exact.{HasValue, round-exact}
+use lib.Ieee.Fits.{down-pos, and-l, and-i, eq→eqb, round-fits}
+use lib.Ieee.Exact.{HasValue}
 use lib.Ieee.Back.{whole-unique, round-whole}
 use Rattle.arith.proofs.Order as order
+use Rattle.arith.proofs.Held.{held}
+use Rattle.arith.proofs.Nearest.{grid-form}
 use Rattle.arith.proofs.Zero.{zeroF, eq-zero, zero-eq, lt-zero, not-lt-zero}
 use Rattle.arith.specs.Bounds.{Within}
 use Rattle.arith.proofs.Within.{within, cross, neg-round, upper, neg-within, widen}
 use Rattle.arith.specs.Rounding.{nearestOf}
 use Rattle.arith.specs.Rounding.{roundOf, floorOf}
 
--- ---- what `fits` says
-known : (s : Bool) (m : ℕ) (e : ℤ) → T (fits binary64 (fin s (suc m) e)) → (suc m < 2 ^ 53) × (suc m * up e < 2 ^ 1024 * down e)
-unfolding fits
-known s m e t =
-    let a = eqb (suc m % 2) 1 in
-    let b = ltb (suc m) (2 ^ 53) in
-    let c = leb (down e) (2 ^ 1074) in
-    let d = ltb (suc m * up e) (2 ^ 1024 * down e) in
-    (ltb→lt (suc m) (2 ^ 53) (and-r a b (and-l (a && b) c (and-l (a && b && c) d t))), ltb→lt (suc m * up e) (2 ^ 1024 * down e) (and-r (a && b && c) d t))
-
 -- ---- a value m * 2 ^ a is what `round` makes of that number
 pub whole : (s : Bool) (m a : ℕ) → T (fits binary64 (fin s m (pos a))) → round binary64 s (m * 2 ^ a) 1 ≡ fin s m (pos a)
-whole s m a t = whole-unique binary64 (round binary64 s (m * 2 ^ a) 1) (fin s m (pos a)) s (m * 2 ^ a) (round-fits binary64 s (m * 2 ^ a) 1) t (go m t) (refl, refl)
-  where
-    go : (m : ℕ) → T (fits binary64 (fin s m (pos a))) → HasValue (round binary64 s (m * 2 ^ a) 1) s (m * 2 ^ a) 1
-    go zero t =
-        round-exact binary64 s (0 * 2 ^ a) 1 0 0 (zero-lt-suc 0) (pow-pos 53) (subst (λ (x : ℕ). x < 2 ^ 2098) (sym (zero-mul 1)) (pow-pos 2098))
-        (ap (λ (x : ℕ). x * 2 ^ 1074) (zero-mul (2 ^ a)) ∙ zero-mul (2 ^ 1074))
-    go (suc m) t =
-        let k = known s m (pos a) t in
-        round-exact binary64 s (suc m * 2 ^ a) 1 (suc m) (a + 1074) (zero-lt-suc 0) (k .0)
-        (lt-of-le-of-lt (le-of-eq (ap (λ (x : ℕ). suc m * x) (pow-add 2 a 1074) ∙ sym (mul-assoc (suc m) (2 ^ a) (2 ^ 1074)))) (lt-of-lt-of-le (mul-lt-mul-of-pos-right (k .1) (pow-pos 1074)) (le-of-eq (ap (λ (x : ℕ). x * 2 ^ 1074) (mul-one (2 ^ 1024))))))
-        (mul-assoc (suc m) (2 ^ a) (2 ^ 1074) ∙ ap (λ (x : ℕ). suc m * x) (sym (pow-add 2 a 1074)) ∙ sym (mul-one (suc m * 2 ^ (a + 1074))))
+whole s m a t = held binary64 s m (pos a) t
 
 half-none : (n : ℕ) → (2 * n + 1) / 2 ≡ n
 half-none n = omega arith
@@ -64,7 +46,7 @@ large s zero (negsuc a) t h = absurd (no (2 ^ suc a) (pow-pos (suc a)) h)
   where
     no : (d : ℕ) → 0 < d → 2 ^ 52 * d ≤ 0 * 1 → ⊥
     no d D k = omega arith
-large s (suc m) (negsuc a) t h = absurd (no (2 ^ a) (pow-pos a) (pow-succ' 2 a) (known s m (negsuc a) t .0))
+large s (suc m) (negsuc a) t h = absurd (no (2 ^ a) (pow-pos a) (pow-succ' 2 a) (grid-form binary64 s (suc m) (negsuc a) t .0))
   where
     no : (p : ℕ) → 0 < p → 2 ^ suc a ≡ 2 * p → suc m < 2 ^ 53 → ⊥
     no p P e k = omega arith

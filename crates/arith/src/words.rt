@@ -1,6 +1,6 @@
-// Words read as floats and as two's complement integers, and back.
+// Words read as floats and as two's complement integers, and back; floats as integers, and back.
 ghost use mathlib.Core.Path.{_≡_};
-ghost use lib.Ieee.{binary64, ofBits, toBits};
+ghost use lib.Ieee.{binary64, ofBits, ofInt, toBits, toSigned};
 ghost use mir.Syntax.{w64};
 ghost use mir.Val.{toZ, ofZ};
 
@@ -42,4 +42,27 @@ pub fn word_of_int(z: i64) -> u64
         return z as u64;
     }
     0xffff_ffff_ffff_ffff - ((-1 - z) as u64)
+}
+
+// Rust's `x as i64`: the fraction cut off, held to the ends of i64, 0 for a NaN.
+pub fn int_of_float(x: f64) -> i64
+    ensures { λ r. ⌜ r ≡ toSigned 63 x ⌝ }
+{
+    if x != x {
+        return 0;
+    }
+    if x < -9223372036854775808.0 {
+        return -9223372036854775808;
+    }
+    if x >= 9223372036854775808.0 {
+        return 9223372036854775807;
+    }
+    std::num::truncating_f64_to_i64(x)
+}
+
+// Rust's `z as f64`, rounded.
+pub fn float_of_int(z: i64) -> f64
+    ensures { λ r. ⌜ r ≡ ofInt binary64 z ⌝ }
+{
+    std::num::nearest_i64_to_f64(z)
 }
