@@ -3,6 +3,7 @@ ghost use Prim.Native.Nat.{_≤_};
 ghost use lib.ListN.{length};
 ghost use Rattle.leaf.specs.Counts.{ResultsFit, WordsFit};
 use crate::arithmetic;
+use crate::codings;
 use crate::draws;
 use crate::reply::Reply;
 use crate::reply::Results;
@@ -53,6 +54,27 @@ fn call(name: &[u8], args: &[u64], results: &mut Results) -> Reply
     }
     if same(name, b"floor") {
         return arithmetic::floor(args, results);
+    }
+    if same(name, b"distribution") {
+        return codings::well_formed(args, results);
+    }
+    if same(name, b"equal") {
+        return codings::equal(args, results);
+    }
+    if same(name, b"taken") {
+        return codings::taken(args, results);
+    }
+    if same(name, b"internal_bounds") {
+        return codings::internal_bounds(args, results);
+    }
+    if same(name, b"from_internal") {
+        return codings::from_internal(args, results);
+    }
+    if same(name, b"to_internal") {
+        return codings::to_internal(args, results);
+    }
+    if same(name, b"sample_random") {
+        return codings::sample_random(args, results);
     }
     Reply::Unreadable
 }

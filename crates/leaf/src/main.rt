@@ -3,6 +3,7 @@
 //
 // A new leaf is a function in the module of its crate and a name in `line::call`.
 mod arithmetic;
+mod codings;
 mod draws;
 mod input;
 mod line;

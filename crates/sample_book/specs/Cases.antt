@@ -1,15 +1,24 @@
--- Document 01's sample book, as facts of the definitions. Statements only.
+-- Document 01's sample book, as facts of the definitions. Definitions and statements only.
 use mathlib.Core.Path.{_≡_}
-use Prim.Native.Nat.{ℕ}
-use lib.IntN.{pos}
-use lib.Ieee.{Float, binary64, ofBits, toBits}
+use mathlib.Core.Bool.{false}
+use lib.IntN.{ℤ, pos, negsuc}
+use lib.Signed.{ltZ}
+use lib.Ieee.{binary64, ofBits, ofInt, toBits}
 use Rattle.arith.specs.Exp.{expOf}
 use Rattle.arith.specs.Ln.{lnOf}
-use Rattle.arith.specs.Outcome.{numberOf, wordOf}
+use Rattle.arith.specs.Outcome.{wordOf}
 use Rattle.arith.specs.Sqrt.{sqrtOf}
+use Rattle.distribution.specs.declared.Distribution.{Distribution}
+use Rattle.distribution.specs.declared.ParamValue.{ParamValue}
+use Rattle.common.specs.Decode.{fromInternalOf}
+use Rattle.common.specs.Random.{sampleRandomOf}
 use Rattle.rng_util.specs.Draws.{wholeDrawOf}
 use Rattle.rng_util.specs.Generator.{streamOf}
 use mathlib.Core.List.{[], _∷_}
+
+-- the ints from low to high, with a step unless it is 0, on linear scale
+abbrev pub ints : ℤ → ℤ → ℤ → Distribution
+ints low high step = Distribution.Int (record { low = low; high = high; «log_scale» = false; stepped = ltZ (pos 0) step; step = step })
 
 pub record SampleBook : Type 0 where
   -- (a) words from 1: 40822041, 100041060c011441 hexadecimal
@@ -18,6 +27,15 @@ pub record SampleBook : Type 0 where
   pub b : wholeDrawOf 1 (pos 0) (pos 4) .value ≡ pos 1
   -- (c) the second in 0..=9 gives 5
   pub c : wholeDrawOf 0x40822041 (pos 0) (pos 9) .value ≡ pos 5
+  -- (b) and (c) again, as values of a choice and of an int
+  pub b-choice : sampleRandomOf 1 (Distribution.Categorical (record { «n_choices» = 5 })) .value ≡ ParamValue.Categorical 1
+  pub c-int : sampleRandomOf 0x40822041 (ints (pos 0) (pos 9) (pos 0)) .value ≡ ParamValue.Int (pos 5)
+  -- (d) int 10..20 step 4 decodes 16 to 18
+  pub d : fromInternalOf (ofInt binary64 (pos 16)) (ints (pos 10) (pos 20) (pos 4)) ≡ ParamValue.Int (pos 18)
+  -- (e) 21 to 20, off the grid
+  pub e : fromInternalOf (ofInt binary64 (pos 21)) (ints (pos 10) (pos 20) (pos 4)) ≡ ParamValue.Int (pos 20)
+  -- (f) int −5..5 decodes −2.5 to −3
+  pub f : fromInternalOf (ofBits binary64 0xc004000000000000) (ints (negsuc 4) (pos 5) (pos 0)) ≡ ParamValue.Int (negsuc 2)
   -- (g) sqrt(2) = 3ff6a09e667f3bcd
   pub g : toBits binary64 (sqrtOf (ofBits binary64 0x4000000000000000)) ≡ 0x3ff6a09e667f3bcd
   -- (h) exp(0) = 1

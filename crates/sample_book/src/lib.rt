@@ -3,5 +3,4 @@ ghost use Rattle.sample_book.specs.Cases.{SampleBook};
 
 pub fn cases()
     ensures { λ _. ⌜ SampleBook ⌝ }
-{
-}
+{}

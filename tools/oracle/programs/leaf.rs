@@ -1,8 +1,12 @@
-//! `leaf`: answers lines of leaf calls with the stand-ins of document 01.
+//! `leaf`: answers lines of leaf calls with the stand-ins of document 01 and the unchanged Rust.
 
 use arithmetic::generator::{self, Draw};
-use arithmetic::{Refusal, float};
+use arithmetic::{OUT_OF_DOMAIN, Refusal, float};
 use leaf_lines::{Answer, Leaf, answer_input, float_to_word, word_to_float};
+use optimizer::distribution::Distribution;
+use optimizer::leaves;
+use optimizer::param::ParamValue;
+use records::{CHOICE, DistributionWords, FLOAT, INT};
 
 /// The leaves by name. A new leaf is one more line here and a function of its words.
 const LEAVES: &[(&str, Leaf)] = &[
@@ -14,6 +18,13 @@ const LEAVES: &[(&str, Leaf)] = &[
     ("sqrt", |words| float_leaf(words, |x| Ok(float::sqrt(x)))),
     ("round", |words| float_leaf(words, |x| Ok(float::round(x)))),
     ("floor", |words| float_leaf(words, |x| Ok(float::floor(x)))),
+    ("distribution", distribution),
+    ("equal", equal),
+    ("taken", taken),
+    ("internal_bounds", internal_bounds),
+    ("from_internal", from_internal),
+    ("to_internal", to_internal),
+    ("sample_random", sample_random),
 ];
 
 fn next(words: &[u64]) -> Option<Answer> {
@@ -42,6 +53,100 @@ fn float_leaf(words: &[u64], f: fn(f64) -> Result<f64, Refusal>) -> Option<Answe
 /// A draw's value, the words drawn and the generator's next word.
 fn draw_answer<T>(draw: Result<Draw<T>, Refusal>, word: fn(T) -> u64) -> Answer {
     draw.map(|draw| vec![word(draw.value), draw.drawn, draw.next])
+}
+
+/// Whether the six words are well-formed: the one leaf of a distribution that refuses none.
+fn distribution(words: &[u64]) -> Option<Answer> {
+    let d = words.try_into().ok()?;
+    Some(Ok(truth(records::distribution(d).is_some())))
+}
+
+/// By the Rust's own `==`.
+fn equal(words: &[u64]) -> Option<Answer> {
+    let (first, second) = words.split_first_chunk()?;
+    let (first, second) = (well_formed(first), well_formed(second.try_into().ok()?));
+    Some(first.and_then(|first| Ok(truth(first == second?))))
+}
+
+/// The value is of the distribution's kind.
+fn taken(words: &[u64]) -> Option<Answer> {
+    let [d @ .., v]: &[u64; 7] = words.try_into().ok()?;
+    let value = records::value(d[0], *v);
+    Some(well_formed(d).map(|d| truth(value.is_some_and(|v| records::may_be_taken(&v, &d)))))
+}
+
+/// A choice has no bounds and so no words.
+fn internal_bounds(words: &[u64]) -> Option<Answer> {
+    let d = well_formed(words.try_into().ok()?);
+    Some(d.map(|d| match leaves::internal_bounds(&d) {
+        Some((low, high)) => vec![float_to_word(low), float_to_word(high)],
+        None => vec![],
+    }))
+}
+
+fn from_internal(words: &[u64]) -> Option<Answer> {
+    let [x, d @ ..]: &[u64; 7] = words.try_into().ok()?;
+    Some(well_formed(d).and_then(|d| decode(word_to_float(*x), &d)))
+}
+
+/// Takes what lies at most 1 outside the internal bounds.
+fn decode(x: f64, d: &Distribution) -> Answer {
+    let (low, high) = leaves::internal_bounds(d).ok_or(OUT_OF_DOMAIN)?;
+    if !(low - 1.0..=high + 1.0).contains(&x) {
+        return Err(OUT_OF_DOMAIN);
+    }
+    Ok(value_words(&leaves::from_internal(x, d)).to_vec())
+}
+
+fn to_internal(words: &[u64]) -> Option<Answer> {
+    let [kind, v, d @ ..]: &[u64; 8] = words.try_into().ok()?;
+    let value = records::value(*kind, *v).ok_or(OUT_OF_DOMAIN);
+    Some(well_formed(d).and_then(|d| encode(&value?, &d)))
+}
+
+/// The Taken rule is asked where the value is used: not for a choice nor for a mismatched kind.
+fn encode(value: &ParamValue, d: &Distribution) -> Answer {
+    let used = matches!(
+        (value, d),
+        (ParamValue::Float(_), Distribution::Float(_)) | (ParamValue::Int(_), Distribution::Int(_))
+    );
+    if used && !records::may_be_taken(value, d) {
+        return Err(OUT_OF_DOMAIN);
+    }
+    Ok(vec![float_to_word(leaves::to_internal(value, d))])
+}
+
+fn sample_random(words: &[u64]) -> Option<Answer> {
+    let [state, d @ ..]: &[u64; 7] = words.try_into().ok()?;
+    Some(well_formed(d).and_then(|d| draw_value(*state, &d)))
+}
+
+/// The value, the words drawn and the generator's next word.
+fn draw_value(state: u64, d: &Distribution) -> Answer {
+    if state == 0 {
+        return Err(OUT_OF_DOMAIN);
+    }
+    let mut rng = fastrand::Rng::with_seed(state);
+    let [kind, value] = value_words(&leaves::sample_random(&mut rng, d));
+    Ok(vec![kind, value, rng.drawn(), rng.state()])
+}
+
+fn well_formed(words: &DistributionWords) -> Result<Distribution, Refusal> {
+    records::distribution(words).ok_or(OUT_OF_DOMAIN)
+}
+
+/// A value's kind and its word.
+fn value_words(value: &ParamValue) -> [u64; 2] {
+    match *value {
+        ParamValue::Float(v) => [FLOAT, float_to_word(v)],
+        ParamValue::Int(v) => [INT, v as u64],
+        ParamValue::Categorical(v) => [CHOICE, v as u64],
+    }
+}
+
+/// 1 for true, 0 for false.
+fn truth(holds: bool) -> Vec<u64> {
+    vec![u64::from(holds)]
 }
 
 fn main() -> std::io::Result<()> {

@@ -6,6 +6,7 @@ use std::ops::{Range, RangeInclusive};
 
 pub struct Rng {
     state: u64,
+    drawn: u64,
 }
 
 impl Rng {
@@ -16,7 +17,17 @@ impl Rng {
     }
 
     pub fn with_seed(seed: u64) -> Self {
-        Self { state: seed }
+        Self { state: seed, drawn: 0 }
+    }
+
+    /// The generator's word. The crate `fastrand` has no such method.
+    pub fn state(&self) -> u64 {
+        self.state
+    }
+
+    /// How many words were drawn so far. The crate `fastrand` has no such method.
+    pub fn drawn(&self) -> u64 {
+        self.drawn
     }
 
     pub fn f64(&mut self) -> f64 {
@@ -36,6 +47,7 @@ impl Rng {
     fn draw<T>(&mut self, draw: impl FnOnce(u64) -> Result<Draw<T>, Refusal>) -> T {
         let answer = draw(self.state).expect("a draw within its domain");
         self.state = answer.next;
+        self.drawn += answer.drawn;
         answer.value
     }
 }

@@ -1,20 +1,25 @@
 -- `sample_book::cases` meets its contract: each case is computed. Assumes nothing.
 use mathlib.Core.Path.{_≡_, refl}
 use lib.IntN.{pos}
-use lib.Ieee.{binary64, ofBits, toBits, round, add, sub, mul, div, neg, lt, isNan, ofInt}
+use lib.Ieee.{binary64, ofBits, toBits, round, add, sub, mul, div, neg, lt, le, isNan, ofInt, toSigned}
 use Rattle.arith.specs.Exp.{expOf, hornerOf, reducedOf, scaledOf, wholeOf}
 use Rattle.arith.specs.Ln.{lnOf, normal, field, digits, mantissaOf, exponentOf, halvedOf, seriesOf, series}
 use Rattle.arith.specs.Outcome.{wordOf}
 use Rattle.arith.specs.Rounding.{nearestOf, roundOf}
 use Rattle.arith.specs.Sqrt.{sqrtOf}
+use Rattle.distribution.specs.Shape.{shapeOf, intShape, intStep, categoricalShape}
+use Rattle.common.specs.Bounds.{boundsOf, endsOf}
+use Rattle.common.specs.Decode.{fromInternalOf, decodedOf}
+use Rattle.common.specs.Grid.{intGrid}
+use Rattle.common.specs.Random.{sampleRandomOf, randomOf, intRandom, linearIntRandom, categoricalRandom, fromWhole}
 use Rattle.rng_util.specs.Draws.{wholeDrawOf, wholeOf as wholeAt, rangeOk}
 use Rattle.rng_util.specs.Generator.{streamOf, nextOf}
 use Rattle.sample_book.proofs.cases.Statement.{statement}
 use Rattle.sample_book.proofs.cases.Tie as tie
 
 returns : tie.Need-returns
-unfolding streamOf nextOf wholeDrawOf wholeAt rangeOk sqrtOf expOf hornerOf reducedOf scaledOf wholeOf nearestOf roundOf lnOf normal field digits mantissaOf exponentOf halvedOf seriesOf series ofBits toBits round add sub mul div neg lt isNan ofInt
-returns c = record { a = refl; b = refl; c = refl; g = refl; h = refl; i = refl }
+unfolding shapeOf intShape intStep categoricalShape boundsOf endsOf fromInternalOf decodedOf intGrid sampleRandomOf randomOf intRandom linearIntRandom categoricalRandom fromWhole toSigned le streamOf nextOf wholeDrawOf wholeAt rangeOk sqrtOf expOf hornerOf reducedOf scaledOf wholeOf nearestOf roundOf lnOf normal field digits mantissaOf exponentOf halvedOf seriesOf series ofBits toBits round add sub mul div neg lt isNan ofInt
+returns c = record { a = refl; b = refl; c = refl; b-choice = refl; c-int = refl; d = refl; e = refl; f = refl; g = refl; h = refl; i = refl }
 
 pub cases-spec : {M : Type 1} → statement M
 cases-spec = tie.close (tie.spec returns)

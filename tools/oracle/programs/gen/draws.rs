@@ -48,6 +48,19 @@ pub fn word_random(rng: &mut SplitMix64) -> u64 {
     if rng.below(8) == 0 { rng.sized(64) } else { rng.next_word() }
 }
 
+/// The generator's word from which `drawn` is drawn: the three steps undone, last one first.
+pub fn state_before(drawn: u64) -> u64 {
+    let undone = undo(drawn, |word| word << 17);
+    let undone = undo(undone, |word| word >> 7);
+    undo(undone, |word| word << 13)
+}
+
+/// The word that gives `result` by exclusive-or with its own shift. Each round sets right the bits
+/// that the shift moves in from those that are right already; ten rounds of 7 bits are enough.
+fn undo(result: u64, shift: fn(u64) -> u64) -> u64 {
+    (0..10).fold(result, |word, _| result ^ shift(word))
+}
+
 pub fn whole_edges() -> Vec<Vec<u64>> {
     let pairs = EDGE_ENDS.iter().flat_map(|&low| EDGE_ENDS.iter().map(move |&high| (low, high)));
     let states = word_edges().into_iter().filter(|&word| word != 0).cycle();

@@ -164,24 +164,29 @@ fn scale_by_4(rng: &mut SplitMix64) -> u64 {
 }
 
 /// A float of either sign with an exponent from low to high.
-fn signed_with_exponent(rng: &mut SplitMix64, low: i64, high: i64) -> u64 {
+pub fn signed_with_exponent(rng: &mut SplitMix64, low: i64, high: i64) -> u64 {
     rng.next_word() & SIGN | with_exponent(rng, low, high)
 }
 
 /// A positive float with an exponent from low to high.
-fn with_exponent(rng: &mut SplitMix64, low: i64, high: i64) -> u64 {
+pub fn with_exponent(rng: &mut SplitMix64, low: i64, high: i64) -> u64 {
     let exponent = (rng.between(low, high) + 1023) as u64;
     exponent << 52 | rng.next_word() >> 12
 }
 
-fn uniform(rng: &mut SplitMix64, low: f64, high: f64) -> f64 {
+pub fn uniform(rng: &mut SplitMix64, low: f64, high: f64) -> f64 {
     low + (rng.next_word() >> 11) as f64 / (1_u64 << 53) as f64 * (high - low)
 }
 
 /// A word at most `distance` away.
-fn nudged(rng: &mut SplitMix64, word: u64, distance: u64) -> u64 {
+pub fn nudged(rng: &mut SplitMix64, word: u64, distance: u64) -> u64 {
     let distance = distance as i64;
     word.wrapping_add(rng.between(-distance, distance) as u64)
+}
+
+/// The float and the two next to it, across zero too.
+pub fn around(x: f64) -> [f64; 3] {
+    [x.next_down(), x, x.next_up()]
 }
 
 fn neighbours(word: u64) -> [u64; 3] {

@@ -5,9 +5,17 @@
 //! and on its own number alone. `--from N` leaves out the first N lines, `--skip-edges` all edges.
 //! Of the random lines about PERCENT in a hundred cannot be read.
 
+mod distribution_limits;
+mod distributions;
 mod draws;
+mod equal;
 mod floats;
+mod internal;
+mod lists;
+mod random_distributions;
+mod random_values;
 mod unreadable;
+mod values;
 
 use splitmix::SplitMix64;
 use std::io::{self, BufWriter, Write};
@@ -44,6 +52,13 @@ const LEAVES: &[(&str, Calls)] = &[
     ("sqrt", Calls::OneWord(floats::sqrt_edges, floats::sqrt_random)),
     ("round", Calls::OneWord(floats::whole_edges, floats::whole_random)),
     ("floor", Calls::OneWord(floats::whole_edges, floats::whole_random)),
+    ("distribution", Calls::Words(distribution_limits::edges, distribution_limits::random)),
+    ("equal", Calls::Words(equal::edges, equal::random)),
+    ("taken", Calls::Words(values::taken_edges, values::taken_random)),
+    ("internal_bounds", Calls::Words(distribution_limits::edges, distribution_limits::random)),
+    ("from_internal", Calls::Words(internal::edges, internal::random)),
+    ("to_internal", Calls::Words(values::to_internal_edges, values::to_internal_random)),
+    ("sample_random", Calls::Words(random_values::edges, random_values::random)),
 ];
 
 struct Options {

@@ -1,0 +1,5 @@
+pub mod Saturate
+pub mod Draws
+pub mod Steps
+pub mod EndLaws
+pub mod Domain

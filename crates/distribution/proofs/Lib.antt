@@ -1,0 +1,5 @@
+pub mod EqualShape
+pub mod Equals
+pub mod Facts
+pub mod RoundTrip
+pub mod Whole

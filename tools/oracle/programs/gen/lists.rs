@@ -1,0 +1,26 @@
+//! Orders of lists whose beginnings are used alone: `sample` takes the first few hundred edges.
+
+use splitmix::SplitMix64;
+use std::collections::HashSet;
+use std::hash::Hash;
+
+/// The first item of each list, then the second of each, and so on to the end of the longest.
+pub fn alternated<T: Copy + Eq + Hash, const N: usize>(lists: [Vec<T>; N]) -> Vec<T> {
+    let length = lists.iter().map(Vec::len).max().unwrap_or(0);
+    let rows = (0..length).flat_map(|row| lists.iter().filter_map(move |list| list.get(row)));
+    distinct(rows.copied().collect())
+}
+
+/// Without those that were there before.
+pub fn distinct<T: Copy + Eq + Hash>(items: Vec<T>) -> Vec<T> {
+    let mut seen = HashSet::new();
+    items.into_iter().filter(|&item| seen.insert(item)).collect()
+}
+
+/// The same items in a fixed order without a pattern.
+pub fn shuffled<T>(items: impl IntoIterator<Item = T>) -> Vec<T> {
+    let key = |number| SplitMix64::for_line(0, number).next_word();
+    let mut keyed: Vec<(u64, T)> = (0..).map(key).zip(items).collect();
+    keyed.sort_by_key(|&(key, _)| key);
+    keyed.into_iter().map(|(_, item)| item).collect()
+}
