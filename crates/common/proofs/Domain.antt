@@ -12,7 +12,7 @@ use lib.Signed.{leZ}
 use lib.Ieee.{Float, nan, inf, fin, binary64, up, down, size, round, add, sub, div, neg, le, fits, ofBits, ofInt, toSigned}
 use lib.Ieee.Bits.{is-true, is-false}
 use lib.Ieee.Digits.{size-lt, size-reaches, size-le}
-use lib.Ieee.Fits.{down-pos, and-l, and-r}
+use lib.Ieee.Fits.{down-pos, and-i, and-l, and-r}
 use lib.Ieee.Order.{round-mono}
 use lib.Ieee.Scale.{round-same}
 use mir.Syntax.{w64}
@@ -23,10 +23,10 @@ use Rattle.arith.specs.Bounds.{abs, Within, Between}
 use Rattle.arith.specs.Rounding.{nearestOf, roundOf}
 use Rattle.arith.proofs.Tests.{taken, either}
 use Rattle.arith.proofs.Order as order
-use Rattle.arith.proofs.Within.{bound, cross, abs-round, div-within, add-in, sub-in, within, within-finite, upper, lower}
+use Rattle.arith.proofs.Within.{bound, widen, cross, abs-round, div-within, add-in, sub-in, within, within-finite, upper, lower}
 use Rattle.arith.proofs.Whole.{whole}
 use Rattle.arith.proofs.ExpLaws.{exp-decoded, exp-drawn}
-use Rattle.arith.proofs.Back.{back-log}
+use Rattle.arith.proofs.Back.{back-linear, back-log}
 use Rattle.rng_util.specs.Draws.{unitOf, unitDrawOf}
 use Rattle.rng_util.specs.Generator.{nextOf}
 use Rattle.rng_util.proofs.Nonzero.{nonzero-test, next-nonzero}
@@ -44,7 +44,7 @@ use Rattle.common.specs.GridParts.{stepsTo, StepFits, OutcomeFits}
 use Rattle.common.specs.Random.{rangeOf, logRange}
 use Rattle.common.specs.RandomParts.{LogFits}
 use Rattle.common.proofs.Saturate.{exact}
-use Rattle.common.proofs.EndLaws.{limit, EndRules, HasEnds, bounds, whole-within, well-formed}
+use Rattle.common.proofs.EndLaws.{FloatsFit, logScale, continuous, limit, EndRules, HasEnds, bounds, whole-within, well-formed}
 
 -- ---- powers of two
 
@@ -74,7 +74,7 @@ module _ (j : ℕ) (J : j < 1024) where
       below : (n d p : ℕ) → 0 < d → n ≤ p * d → 2 * n + d < suc p * (2 * d)
       below n d p D h = let b : suc p * (2 * d) ≡ p * d * 2 + 2 * d = simp (suc-mul, mul-assoc, mul-comm, mul-left-comm) in omega arith
 
-  round-within : (x : Float) → Within (power (pos j)) x → Within (power (pos j)) (roundOf x)
+  pub round-within : (x : Float) → Within (power (pos j)) x → Within (power (pos j)) (roundOf x)
   unfolding roundOf le
   round-within nan w = absurd w
   round-within (inf s) w = absurd w
@@ -208,8 +208,8 @@ inside-within : (log : Bool) (lo hi x : Float) → EndRules log lo hi → T (ins
 inside-within true lo hi x r i = beyond (limit true) (accepted true) lo hi x (unfold ofInt ofBits add le in tt) (r .low) (r .high) i
 inside-within false lo hi x r i = beyond (limit false) (accepted false) lo hi x (unfold ofInt add le in tt) (r .low) (r .high) i
 
--- a positive number from 2 ^ -n to 2 ^ k
-positive-within : (a b c v : Float) → T (le (neg c) a && le b c) → Between a b v → Within c v
+-- from a to b, which are from -c to c
+pub positive-within : (a b c v : Float) → T (le (neg c) a && le b c) → Between a b v → Within c v
 positive-within a b c v t r = within c v (order.le-trans v b c (r .1) (and-r (le (neg c) a) (le b c) t)) (order.le-trans (neg c) a v (and-l (le (neg c) a) (le b c) t) (r .0))
 
 unscaled-within : (log : Bool) (x v : Float) → Within (accepted log) x → unscaleOf log x ≡ Value v → Within (power (pos 57)) v
@@ -231,16 +231,57 @@ decodable x (Distribution.Int d) t i = go (unscaleOf (d .«log_scale») x) refl
     go (Refused n) e = tt
 decodable x (Distribution.Categorical d) t i = tt
 
+-- ---- a unit float scaled to the ends
+
+pub linear-range : (lo hi u : Float) → EndRules false lo hi → Between (ofBits binary64 0) one u → T (inside (InternalBounds.Ends lo hi) (rangeOf lo hi u)) × Within (power (pos 53)) (rangeOf lo hi u)
+linear-range lo hi u r b =
+    let x = rangeOf lo hi u in
+    let k = back-linear lo hi u (r .low) (r .high) (r .order) b in
+    let i = and-i (le (sub binary64 lo one) x) (le x (add binary64 hi one)) (k .0) (k .1) in
+    (i, beyond (limit false) (power (pos 53)) lo hi x (unfold ofInt add le in tt) (r .low) (r .high) i)
+
+-- decoding accepts it, and its value obeys the Taken rule
+pub record Unscaled (log : Bool) (lo hi u : Float) : Type 0 where
+  pub accepted : T (inside (InternalBounds.Ends lo hi) (rangeOf lo hi u))
+  pub value : Float
+  pub is : unscaleOf log (rangeOf lo hi u) ≡ Value value
+  pub size : Within (power (pos 53)) value
+  pub least : T log → T (le (power (negsuc 52)) value)
+
+pub unscaled : (log : Bool) (lo hi u : Float) → EndRules log lo hi → Between (ofBits binary64 0) one u → Unscaled log lo hi u
+unscaled true lo hi u r b =
+    let x = rangeOf lo hi u in
+    let k = back-log lo hi u (r .low) (r .high) (r .order) b in
+    let v = exp-drawn x (k .1) in
+    record {
+      accepted = and-i (le (sub binary64 lo one) x) (le x (add binary64 hi one)) (k .0 .0) (k .0 .1);
+      value = v .0;
+      is = v .1;
+      size = positive-within (power (negsuc 52)) (power (pos 53)) (power (pos 53)) (v .0) (unfold neg le in tt) (v .2);
+      least = λ _. v .2 .0;
+    }
+unscaled false lo hi u r b =
+    let k = linear-range lo hi u r b in
+    record { accepted = k .0; value = rangeOf lo hi u; is = refl; size = k .1; least = λ l. absurd l }
+
 -- ---- a draw on log scale
+
+pub record LogDrawn (d : Distribution) (u : Float) : Type 0 where
+  pub value : Float
+  pub is : logRange (endsOf d) u ≡ Value value
+  pub size : Within (power (pos 53)) value
+  pub least : T (le (power (negsuc 52)) value)
+
+pub log-drawn : (d : Distribution) → T (continuous d) → FloatsFit d → T (shapeOf d) → logScale d ≡ true → (u : Float) → Between (ofBits binary64 0) one u → LogDrawn d u
+log-drawn d c f t l u b =
+    let r = bounds d c f t in
+    let v = unscaled true (r .lo) (r .hi) u (subst (λ (g : Bool). EndRules g (r .lo) (r .hi)) l (r .rules)) b in
+    record { value = v .value; is = ap (λ (g : InternalBounds). logRange g u) (sym (well-formed d t) ∙ r .is) ∙ v .is; size = v .size; least = v .least tt }
 
 pub log-steps : (d : IntDistribution) (u : Float) → T (intShape d) → d .«log_scale» ≡ true → Between (ofBits binary64 0) one u → OutcomeFits d (logRange (endsOf (Distribution.Int d)) u)
 log-steps d u t l b =
-    let s : T (shapeOf (Distribution.Int d)) = unfold shapeOf in t in
-    let r = bounds (Distribution.Int d) tt tt s in
-    let g = subst (λ (b : Bool). EndRules b (r .lo) (r .hi)) l (r .rules) in
-    let v = exp-drawn (rangeOf (r .lo) (r .hi) u) (back-log (r .lo) (r .hi) u (g .low) (g .high) (g .order) b .1) in
-    let e : logRange (endsOf (Distribution.Int d)) u ≡ Value (v .0) = ap (λ (b : InternalBounds). logRange b u) (sym (well-formed (Distribution.Int d) s) ∙ r .is) ∙ v .1 in
-    subst (OutcomeFits d) (sym e) (steps-fit d (v .0) t (positive-within (power (negsuc 52)) (power (pos 53)) (power (pos 57)) (v .0) (unfold neg le in tt) (v .2)))
+    let v = log-drawn (Distribution.Int d) tt tt (unfold shapeOf in t) l u b in
+    subst (OutcomeFits d) (sym (v .is)) (steps-fit d (v .value) t (widen (power (pos 53)) (power (pos 57)) (v .value) (unfold le in tt) (v .size)))
 
 -- a unit float is from 0 to 1, that of a refused draw too
 pub unit-between : (w : ℕ) → w < 2 ^ 64 → Between (ofBits binary64 0) one (unitDrawOf w .value)

@@ -7,7 +7,6 @@ use Rattle.rng_util.specs.declared.UnitDraw.{UnitDraw}
 use Rattle.rng_util.specs.declared.WholeDraw.{WholeDraw}
 use Rattle.rng_util.specs.Draws.{unitDrawOf, wholeDrawOf}
 use Rattle.distribution.specs.declared.ParamValue.{ParamValue}
-use Rattle.common.specs.declared.RandomDraw.{RandomDraw}
 use Rattle.common.specs.Random.{finished, fromUnit, fromWhole}
 
 pub from-unit : (w : ℕ) (r : UnitDraw) (v : ParamValue) (f : Float → ParamValue) → r ≡ unitDrawOf w → v ≡ f (r .value) → finished w (r .number) (r .drawn) (r .next) v ≡ fromUnit w f

@@ -1,8 +1,7 @@
 -- What fits i64 does not saturate. Assumes nothing.
-use mathlib.Core.Path.{_≡_, refl, sym, ap, _∙_}
-use Prim.Native.Nat.{ℕ, _-_, _^_, _≤_, _<_}
+use mathlib.Core.Path.{_≡_}
+use Prim.Native.Nat.{_-_, _^_}
 use native.Mathlib.Omega.{arith}
-use mathlib.Core.Bool.{cond}
 use borrow.Author.Tests.{le-ltb}
 use lib.IntN.{ℤ, pos, negsuc, _+ℤ_, _*ℤ_}
 use lib.Ieee.{Float}

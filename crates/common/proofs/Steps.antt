@@ -1,24 +1,23 @@
 -- The steps of an int drawn stay between its ends. Assumes nothing.
 use mathlib.Core.Path.{_≡_, refl, sym, ap, _∙_, subst}
-use Prim.Native.Nat.{ℕ, zero, suc, _+_, _*_, _/_, _%_, _^_, _≤_, _<_, zero-le}
-use native.Mathlib.Nat.{le-trans, le-of-eq, mul-le-mul-right, mod-eq-of-lt, div-mul-le-self, div-le-self}
+use Prim.Native.Nat.{ℕ, _+_, _*_, _/_, _^_, _≤_, _<_, zero-le}
+use native.Mathlib.Nat.{le-trans, mul-le-mul-right, mod-eq-of-lt, div-mul-le-self, div-le-self}
 use native.Mathlib.Omega.{arith}
 use mathlib.Core.Bool.{Bool, true, false, not, _&&_, _||_, true≢false}
 use lib.Dec.{T, eqb, leb, leb→le, le→leb}
 use lib.IntN.{ℤ, pos, negsuc, natAbs, _+ℤ_, _-ℤ_, _*ℤ_, pos-*ℤ-pos}
 use lib.Signed.{leZ, quotZ}
-use lib.Ieee.Bits as bits
 use lib.Ieee.Fits.{and-i}
 use mir.Syntax.{w64}
-use mir.Val.{SFits, ofZ}
+use mir.Val.{SFits}
 use Rattle.rng_util.specs.Generator.{nextOf}
 use Rattle.rng_util.specs.Draws.{wholeDrawOf, wholeOf, rangeOk}
-use Rattle.rng_util.proofs.Whole.{difference, difference-small, whole-fits, whole-is, whole-between}
+use Rattle.rng_util.proofs.Whole.{difference, difference-small, whole-fits, whole-is, whole-between, Between}
 use Rattle.common.specs.RandomParts.{Stepped}
 
-in-range : (a b : ℤ) → natAbs a ≤ 2 ^ 52 → natAbs b ≤ 2 ^ 52 → T (leZ a b) → T (rangeOk a b)
+pub in-range : (a b : ℤ) → natAbs a ≤ 2 ^ 53 → natAbs b ≤ 2 ^ 53 → T (leZ a b) → T (rangeOk a b)
 unfolding rangeOk
-in-range a b p q h = and-i (leZ a b && leb (natAbs a) (2 ^ 53)) (leb (natAbs b) (2 ^ 53)) (and-i (leZ a b) (leb (natAbs a) (2 ^ 53)) h (le→leb (natAbs a) (2 ^ 53) (omega arith))) (le→leb (natAbs b) (2 ^ 53) (omega arith))
+in-range a b p q h = and-i (leZ a b && leb (natAbs a) (2 ^ 53)) (leb (natAbs b) (2 ^ 53)) (and-i (leZ a b) (leb (natAbs a) (2 ^ 53)) h (le→leb (natAbs a) (2 ^ 53) p)) (le→leb (natAbs b) (2 ^ 53) q)
 
 -- a number drawn from 0 to q, or the 0 of a refusal
 pub record UpTo (q : ℕ) (v : ℤ) : Type 0 where
@@ -26,9 +25,9 @@ pub record UpTo (q : ℕ) (v : ℤ) : Type 0 where
   pub is : v ≡ pos number
   pub most : number ≤ q
 
-up-to : (q : ℕ) (v : ℤ) → T (leZ (pos 0) v) → T (leZ v (pos q)) → UpTo q v
-up-to q (pos n) p h = record { number = n; is = refl; most = leb→le n q h }
-up-to q (negsuc n) p h = absurd p
+pub up-to : (q : ℕ) (v : ℤ) → Between (pos 0) (pos q) v → UpTo q v
+up-to q (pos n) b = record { number = n; is = refl; most = leb→le n q (b .1) }
+up-to q (negsuc n) b = absurd (b .0)
 
 pub drawn-up-to : (w q : ℕ) → UpTo q (wholeDrawOf w (pos 0) (pos q) .value)
 drawn-up-to w q = go (eqb w 0 || not (rangeOk (pos 0) (pos q))) refl
@@ -46,11 +45,11 @@ drawn-up-to w q = go (eqb w 0 || not (rangeOk (pos 0) (pos q))) refl
     go false e =
         let v : wholeDrawOf w (pos 0) (pos q) .value ≡ wholeOf (pos 0) (pos q) (nextOf w) = unfold wholeDrawOf in rw e in
         let b = whole-between (pos 0) (pos q) (accepted (eqb w 0) (rangeOk (pos 0) (pos q)) e) (nextOf w) in
-        subst (UpTo q) (sym v) (up-to q (wholeOf (pos 0) (pos q) (nextOf w)) (b .0) (b .1))
+        subst (UpTo q) (sym v) (up-to q (wholeOf (pos 0) (pos q) (nextOf w)) b)
 
 module _ (low high step : ℤ) (s : Stepped low high step) where
   ok : T (rangeOk low high)
-  ok = in-range low high (s .low-small) (s .high-small) (s .ordered)
+  ok = in-range low high (let l = s .low-small in omega arith) (let h = s .high-small in omega arith) (s .ordered)
 
   pub span : ℕ
   span = difference low high ok .size

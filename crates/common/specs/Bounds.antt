@@ -1,7 +1,5 @@
 -- `internal_bounds` of common.rs: the ends of a distribution in the model's space, their logarithms on log scale. A choice has none, and a malformed distribution is 11. Definitions only.
-use Prim.Native.Nat.{ℕ}
-use mathlib.Core.Bool.{Bool, true, false, cond}
-use lib.IntN.{ℤ}
+use mathlib.Core.Bool.{Bool, cond}
 use lib.Ieee.{Float, binary64, ofInt}
 use Rattle.arith.specs.declared.Outcome.{Outcome}
 use Rattle.arith.specs.declared.Outcome.the-variants.{Value, Refused}

@@ -1,6 +1,5 @@
 -- `from_internal` of common.rs: a value of the model's space as a parameter's value. "Decode accepts finite values from lo − 1 to hi + 1 (internal bounds), else 11." Definitions only.
-use Prim.Native.Nat.{ℕ}
-use mathlib.Core.Bool.{Bool, true, false, _&&_, cond}
+use mathlib.Core.Bool.{Bool, false, _&&_, cond}
 use lib.IntN.{pos}
 use lib.Ieee.{Float, binary64, add, sub, le, ofInt}
 use Rattle.arith.specs.declared.Outcome.{Outcome}

@@ -1,5 +1,4 @@
 -- `to_internal` of common.rs: a parameter's value in the model's space. "`to_internal` of a choice or a mismatched kind is +0; otherwise its value obeys the Taken rule, else 11." Definitions only.
-use mathlib.Core.Bool.{Bool, true, false}
 use lib.Ieee.{Float, binary64, ofBits, ofInt}
 use Rattle.arith.specs.declared.Outcome.{Outcome}
 use Rattle.arith.specs.declared.Outcome.the-variants.{Value, Refused}

@@ -1,7 +1,7 @@
 -- How a value is moved to the grid of a stepped distribution and held to its ends, as common.rs does it. Definitions only.
 use Prim.Native.Nat.{_-_, _^_}
-use mathlib.Core.Bool.{Bool, true, false, cond}
-use lib.IntN.{ℤ, pos, negsuc, negℤ, _+ℤ_, _*ℤ_}
+use mathlib.Core.Bool.{cond}
+use lib.IntN.{ℤ, pos, negℤ, _+ℤ_, _*ℤ_}
 use lib.Signed.{ltZ}
 use lib.Ieee.{Float, binary64, add, sub, mul, div, lt, ofInt, toSigned}
 use Rattle.arith.specs.Rounding.{roundOf}

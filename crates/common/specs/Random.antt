@@ -1,6 +1,6 @@
 -- `sample_random` of common.rs: a random value for any distribution, one word each. It clamps neither an unstepped float nor a linear stepped one. Definitions only.
 use Prim.Native.Nat.{ℕ, _-_}
-use mathlib.Core.Bool.{Bool, true, false, cond}
+use mathlib.Core.Bool.{cond}
 use lib.Dec.{eqb}
 use lib.IntN.{ℤ, pos, _+ℤ_, _-ℤ_, _*ℤ_, natAbs}
 use lib.Signed.{quotZ}
@@ -9,8 +9,6 @@ use Rattle.arith.specs.declared.Outcome.{Outcome}
 use Rattle.arith.specs.declared.Outcome.the-variants.{Value, Refused}
 use Rattle.arith.specs.Exp.{expOf}
 use Rattle.arith.specs.Rounding.{floorOf}
-use Rattle.rng_util.specs.declared.UnitDraw.{UnitDraw}
-use Rattle.rng_util.specs.declared.WholeDraw.{WholeDraw}
 use Rattle.rng_util.specs.Draws.{unitDrawOf, wholeDrawOf}
 use Rattle.distribution.specs.declared.FloatDistribution.{FloatDistribution}
 use Rattle.distribution.specs.declared.IntDistribution.{IntDistribution}

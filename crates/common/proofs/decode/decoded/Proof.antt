@@ -1,9 +1,8 @@
 -- `decoded` meets its contract, by the kind. Assumes nothing.
-use mathlib.Core.Path.{_∙_, subst, sym}
+use mathlib.Core.Path.{subst, sym}
 use Rattle.common.specs.Decode.{decodedOf}
 use Rattle.common.specs.DecodeParts.{Decodable}
 use Rattle.common.specs.GridParts.{OutcomeFits}
-use Rattle.distribution.specs.declared.Distribution.{Distribution}
 use borrow.Author.Needs.{needs}
 use Rattle.common.proofs.decode.decoded.Statement.{statement}
 use Rattle.common.proofs.decode.decoded.Tie as tie

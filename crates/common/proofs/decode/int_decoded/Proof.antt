@@ -1,8 +1,5 @@
 -- `int_decoded` meets its contract. Assumes nothing.
-use mathlib.Core.Path.{_≡_, _∙_, sym, ap, subst}
-use lib.IntN.{ℤ}
-use Rattle.arith.specs.declared.Outcome.{Outcome}
-use Rattle.arith.specs.declared.Outcome.the-variants.{Value, Refused}
+use mathlib.Core.Path.{_∙_, ap, subst}
 use Rattle.distribution.specs.declared.ParamValue.{ParamValue}
 use Rattle.common.specs.Grid.{clampZ}
 use Rattle.common.specs.GridParts.{OutcomeFits}

@@ -1,8 +1,6 @@
 -- `int_clamp` meets its contract. Assumes nothing.
-use mathlib.Core.Path.{_≡_, _∙_, ap}
-use lib.IntN.{ℤ}
+use mathlib.Core.Path.{_∙_}
 use mir.Syntax.{w64}
-use mir.Val.{toZ, ofZ}
 use mir.ValLaws.{toZ-ofZ}
 use Rattle.distribution.proofs.Whole.{ReadBack}
 use Rattle.common.specs.Grid.{raisedToZ, loweredToZ}

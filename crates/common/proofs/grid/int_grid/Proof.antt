@@ -1,15 +1,15 @@
 -- `int_grid` meets its contract: nothing saturates. Assumes nothing.
-use mathlib.Core.Path.{_≡_, _∙_, sym, ap, refl}
-use mathlib.Core.Bool.{true, false}
-use lib.Ieee.{Float, binary64, sub, div, ofInt, toSigned}
+use mathlib.Core.Path.{_≡_, _∙_, sym, ap}
+use mathlib.Core.Bool.{true}
+use lib.Ieee.{binary64, sub, div, ofInt, toSigned}
 use lib.IntN.{ℤ, _+ℤ_, _*ℤ_}
 use mir.Syntax.{w64}
 use mir.Val.{SFits, toZ, ofZ}
 use mir.ValLaws.{toZ-ofZ}
 use Rattle.arith.specs.Rounding.{roundOf}
 use Rattle.distribution.proofs.Whole.{ReadBack}
-use Rattle.common.specs.Grid.{intGrid, roundZ}
-use Rattle.common.specs.GridParts.{StepFits, stepsTo}
+use Rattle.common.specs.Grid.{intGrid}
+use Rattle.common.specs.GridParts.{stepsTo}
 use Rattle.common.proofs.Saturate.{exact}
 use borrow.Author.Needs.{needs}
 use Rattle.common.proofs.grid.int_grid.Statement.{statement}

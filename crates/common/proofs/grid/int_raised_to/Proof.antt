@@ -1,5 +1,4 @@
 -- `int_raised_to` meets its contract. Assumes nothing.
-use mathlib.Core.Path.{_≡_}
 use mir.Syntax.{w64}
 use mir.ValLaws.{toZ-ofZ}
 use Rattle.common.proofs.grid.int_raised_to.Statement.{statement}

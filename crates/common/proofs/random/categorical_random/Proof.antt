@@ -1,13 +1,10 @@
 -- `categorical_random` meets its contract. Assumes nothing.
 use mathlib.Core.Path.{_≡_, _∙_, sym, ap, subst}
-use Prim.Native.Nat.{ℕ, _-_, _≤_, _<_}
+use Prim.Native.Nat.{_-_}
 use native.Mathlib.Omega.{arith}
-use lib.Dec.{T}
-use lib.IntN.{ℤ, pos, negsuc, natAbs}
-use lib.Signed.{nonNeg}
+use lib.IntN.{ℤ, pos, natAbs}
 use mir.Syntax.{w64}
-use mir.Val.{SFits, Fits, toZ, ofZ}
-use mir.ValLaws.{toZ-ofZ, toZ-pos}
+use mir.ValLaws.{toZ-pos}
 use Rattle.rng_util.specs.declared.WholeDraw.{WholeDraw}
 use Rattle.distribution.specs.declared.ParamValue.{ParamValue}
 use Rattle.rng_util.specs.Draws.{wholeDrawOf}

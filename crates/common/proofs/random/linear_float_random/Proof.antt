@@ -1,5 +1,5 @@
 -- `linear_float_random` meets its contract. Assumes nothing.
-use mathlib.Core.Path.{_≡_, _∙_, sym, ap}
+use mathlib.Core.Path.{_∙_, ap}
 use Rattle.distribution.specs.declared.ParamValue.{ParamValue}
 use Rattle.common.specs.Random.{linearFloatRandom, rangeOf}
 use Rattle.common.proofs.Draws.{from-unit}

@@ -1,6 +1,5 @@
 -- `linear_int_random` meets its contract. Assumes nothing.
-use mathlib.Core.Path.{_≡_, _∙_, sym, ap}
-use lib.IntN.{ℤ}
+use mathlib.Core.Path.{_∙_, ap}
 use mir.Syntax.{w64}
 use mir.ValLaws.{toZ-ofZ}
 use Rattle.distribution.specs.declared.ParamValue.{ParamValue}

@@ -1,5 +1,5 @@
 -- `log_float_random` meets its contract. Assumes nothing.
-use mathlib.Core.Path.{_≡_, _∙_, sym, ap}
+use mathlib.Core.Path.{_∙_, ap}
 use Rattle.distribution.specs.declared.Distribution.{Distribution}
 use Rattle.common.specs.Bounds.{endsOf}
 use Rattle.common.specs.Random.{logFloatRandom, logFloat, logRange}

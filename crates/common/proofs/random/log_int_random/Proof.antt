@@ -1,5 +1,5 @@
 -- `log_int_random` meets its contract. Assumes nothing.
-use mathlib.Core.Path.{_≡_, _∙_, sym, ap, subst}
+use mathlib.Core.Path.{_∙_, sym, ap, subst}
 use Rattle.distribution.specs.declared.Distribution.{Distribution}
 use Rattle.common.specs.Bounds.{endsOf}
 use Rattle.common.specs.Decode.{intOf}

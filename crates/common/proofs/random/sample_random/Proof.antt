@@ -1,7 +1,6 @@
 -- `common::sample_random` meets its contract. Assumes nothing.
-use mathlib.Core.Path.{_≡_, _∙_, sym, ap}
+use mathlib.Core.Path.{_∙_, sym}
 use borrow.Author.Tests.{not-true, not-false}
-use Rattle.distribution.specs.Shape.{shapeOf}
 use Rattle.arith.proofs.Tests.{taken}
 use Rattle.common.specs.Random.{sampleRandomOf}
 use borrow.Author.Needs.{needs}

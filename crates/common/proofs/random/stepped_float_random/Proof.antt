@@ -1,6 +1,6 @@
 -- `stepped_float_random` meets its contract. Assumes nothing.
-use mathlib.Core.Path.{_≡_, _∙_, sym, ap}
-use lib.IntN.{ℤ, pos}
+use mathlib.Core.Path.{_∙_, ap}
+use lib.IntN.{pos}
 use lib.Ieee.{Float, binary64, add, sub, mul, div, ofInt, toSigned}
 use Rattle.arith.specs.Rounding.{floorOf}
 use Rattle.distribution.specs.declared.ParamValue.{ParamValue}
