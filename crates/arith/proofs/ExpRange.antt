@@ -2,9 +2,7 @@
 use mathlib.Core.Path.{_≡_, refl, sym, ap, _∙_, subst}
 use mathlib.Core.Logic.{_⊎_, inl, inr}
 use Prim.Native.Nat.{ℕ, zero, suc, _+_, _-_, _*_, _^_, _≤_, _<_}
-use native.Mathlib.Nat.{pow-succ'}
 use native.Mathlib.Omega.{arith}
-use lib.Pow.{pow-pos}
 use mathlib.Core.Bool.{Bool, true, false, not, cond, true≢false}
 use lib.Dec.{T, leb, leb→le, nleb→lt, eqb→eq}
 use lib.IntN.{ℤ, pos, negsuc, negℤ}
@@ -14,7 +12,7 @@ use lib.Ieee.Scale.{finite}
 use Rattle.arith.specs.Bounds.{real, Within, negative}
 use Rattle.arith.proofs.Within.{within, mul-in, widen, neg-round, negative-round, within-finite}
 use Rattle.arith.proofs.Order as order
-use Rattle.arith.proofs.Zero.{lt-zero, not-lt-zero}
+use Rattle.arith.proofs.Zero.{zero-exponent, lt-zero, not-lt-zero}
 use Rattle.arith.specs.Rounding.{nearestOf, roundOf}
 use Rattle.arith.specs.Exp.{scaledOf, hornerOf, reducedOf, wholeOf, one, log2e}
 use Rattle.arith.proofs.Nearest.{nearest-at-most}
@@ -113,23 +111,11 @@ below-zero-sign (inf s) F h = absurd F
 below-zero-sign (fin s m e) F h = product-sign s m e ∙ lt-zero s m e h
 
 -- what is not below zero has the plus sign, or is -0
-minus-zero : (e : ℤ) → T (fits binary64 (fin true 0 e)) → e ≡ pos 0
-unfolding fits
-minus-zero (pos zero) f = refl
-minus-zero (pos (suc a)) f = absurd (no (2 ^ a) (pow-pos a) (pow-succ' 2 a) (eqb→eq (2 ^ suc a * 1) 1 f))
-  where
-    no : (p : ℕ) → 0 < p → 2 ^ suc a ≡ 2 * p → 2 ^ suc a * 1 ≡ 1 → ⊥
-    no p P e k = omega arith
-minus-zero (negsuc a) f = absurd (no (2 ^ a) (pow-pos a) (pow-succ' 2 a) (eqb→eq (1 * 2 ^ suc a) 1 f))
-  where
-    no : (p : ℕ) → 0 < p → 2 ^ suc a ≡ 2 * p → 1 * 2 ^ suc a ≡ 1 → ⊥
-    no p P e k = omega arith
-
 from-zero-sign : (x : Float) → T (fits binary64 x) → T (finite x) → T (not (lt x (ofBits binary64 0))) → (negative (mul binary64 x log2e) ≡ false) ⊎ (x ≡ fin true 0 (pos 0))
 from-zero-sign nan f F h = absurd F
 from-zero-sign (inf s) f F h = absurd F
 from-zero-sign (fin false m e) f F h = inl (product-sign false m e)
-from-zero-sign (fin true zero e) f F h = inr (ap (λ (z : ℤ). fin true 0 z) (minus-zero e f))
+from-zero-sign (fin true zero e) f F h = inr (ap (λ (z : ℤ). fin true 0 z) (zero-exponent true e f))
 from-zero-sign (fin true (suc m) e) f F h = absurd (no (not-lt-zero true (suc m) e h))
   where
     no : (true ≡ false) ⊎ (suc m ≡ 0) → ⊥

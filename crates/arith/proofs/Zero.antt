@@ -1,13 +1,14 @@
 -- How a finite value compares with 0, by its sign bit and its digits. Assumes nothing.
 use mathlib.Core.Path.{_≡_, refl, sym}
 use mathlib.Core.Logic.{_⊎_, inl, inr}
-use Prim.Native.Nat.{ℕ, zero, suc, _+_, _*_, _≤_, _<_}
-use native.Mathlib.Nat.{mul-pos, zero-lt-suc, lt-irrefl, lt-of-lt-of-le}
+use Prim.Native.Nat.{ℕ, zero, suc, _+_, _*_, _^_, _≤_, _<_}
+use native.Mathlib.Nat.{mul-pos, zero-lt-suc, lt-irrefl, lt-of-lt-of-le, pow-succ'}
 use native.Mathlib.Omega.{arith}
+use lib.Pow.{pow-pos}
 use mathlib.Core.Bool.{Bool, true, false, not, _||_, Bool·beq, true≢false}
 use lib.Dec.{T, eqb, eqb→eq, ltb→lt, nltb→le}
-use lib.IntN.{ℤ}
-use lib.Ieee.{Float, nan, inf, fin, binary64, up, down, lt, eq, ofBits}
+use lib.IntN.{ℤ, pos, negsuc}
+use lib.Ieee.{Float, nan, inf, fin, binary64, up, down, fits, lt, eq, ofBits}
 use lib.Ieee.Fits.{up-pos, and-l, and-i, eq→eqb}
 use lib.Ieee.Positive.{positive}
 use Rattle.arith.proofs.Tests.{or-right, either}
@@ -18,6 +19,19 @@ zeroF = ofBits binary64 0
 pub no-digits : (m : ℕ) (e : ℤ) → m * up e * 1 ≤ 0 → m ≡ 0
 no-digits zero e h = refl
 no-digits (suc m) e h = absurd (lt-irrefl 0 (lt-of-lt-of-le (mul-pos (mul-pos (zero-lt-suc m) (up-pos e)) (zero-lt-suc 0)) h))
+
+-- a zero is written in one way
+pub zero-exponent : (s : Bool) (e : ℤ) → T (fits binary64 (fin s 0 e)) → e ≡ pos 0
+unfolding fits
+zero-exponent s (pos zero) f = refl
+zero-exponent s (pos (suc a)) f = absurd (no (2 ^ a) (pow-pos a) (pow-succ' 2 a) (eqb→eq (2 ^ suc a * 1) 1 f))
+  where
+    no : (p : ℕ) → 0 < p → 2 ^ suc a ≡ 2 * p → 2 ^ suc a * 1 ≡ 1 → ⊥
+    no p P e k = omega arith
+zero-exponent s (negsuc a) f = absurd (no (2 ^ a) (pow-pos a) (pow-succ' 2 a) (eqb→eq (1 * 2 ^ suc a) 1 f))
+  where
+    no : (p : ℕ) → 0 < p → 2 ^ suc a ≡ 2 * p → 1 * 2 ^ suc a ≡ 1 → ⊥
+    no p P e k = omega arith
 
 pub eq-zero : (s : Bool) (m : ℕ) (e : ℤ) → T (eq (fin s m e) zeroF) → m ≡ 0
 unfolding eq ofBits

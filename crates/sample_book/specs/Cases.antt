@@ -4,6 +4,7 @@ use mathlib.Core.Bool.{false}
 use lib.IntN.{ℤ, pos, negsuc}
 use lib.Signed.{ltZ}
 use lib.Ieee.{binary64, ofBits, ofInt, toBits}
+use Rattle.arith.specs.declared.Outcome.the-variants.{Value}
 use Rattle.arith.specs.Exp.{expOf}
 use Rattle.arith.specs.Ln.{lnOf}
 use Rattle.arith.specs.Outcome.{wordOf}
@@ -12,6 +13,8 @@ use Rattle.distribution.specs.declared.Distribution.{Distribution}
 use Rattle.distribution.specs.declared.ParamValue.{ParamValue}
 use Rattle.common.specs.Decode.{fromInternalOf}
 use Rattle.common.specs.Random.{sampleRandomOf}
+use Rattle.acquisition.specs.Improvement.{expectedImprovementOf}
+use Rattle.acquisition.specs.Normal.{normCdfOf}
 use Rattle.rng_util.specs.Draws.{wholeDrawOf}
 use Rattle.rng_util.specs.Generator.{streamOf}
 use mathlib.Core.List.{[], _∷_}
@@ -42,3 +45,9 @@ pub record SampleBook : Type 0 where
   pub h : wordOf (expOf (ofBits binary64 0)) ≡ 0x3ff0000000000000
   -- (i) ln(1) = 0
   pub i : wordOf (lnOf (ofBits binary64 0x3ff0000000000000)) ≡ 0
+  -- (j) Φ(8.5) = 1
+  pub j : normCdfOf (ofBits binary64 0x4021000000000000) ≡ Value (ofInt binary64 (pos 1))
+  -- (k) mean 2, std 0: best 3 gives 1
+  pub k-above : expectedImprovementOf (ofInt binary64 (pos 2)) (ofBits binary64 0) (ofInt binary64 (pos 3)) ≡ Value (ofInt binary64 (pos 1))
+  -- best 1 gives 0
+  pub k-below : expectedImprovementOf (ofInt binary64 (pos 2)) (ofBits binary64 0) (ofInt binary64 (pos 1)) ≡ Value (ofBits binary64 0)

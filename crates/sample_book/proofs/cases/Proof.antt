@@ -12,14 +12,16 @@ use Rattle.common.specs.Bounds.{boundsOf, endsOf}
 use Rattle.common.specs.Decode.{fromInternalOf, decodedOf}
 use Rattle.common.specs.Grid.{intGrid}
 use Rattle.common.specs.Random.{sampleRandomOf, randomOf, intRandom, linearIntRandom, categoricalRandom, fromWhole}
+use Rattle.acquisition.specs.Improvement.{expectedImprovementOf}
+use Rattle.acquisition.specs.Normal.{normCdfOf}
 use Rattle.rng_util.specs.Draws.{wholeDrawOf, wholeOf as wholeAt, rangeOk}
 use Rattle.rng_util.specs.Generator.{streamOf, nextOf}
 use Rattle.sample_book.proofs.cases.Statement.{statement}
 use Rattle.sample_book.proofs.cases.Tie as tie
 
 returns : tie.Need-returns
-unfolding shapeOf intShape intStep categoricalShape boundsOf endsOf fromInternalOf decodedOf intGrid sampleRandomOf randomOf intRandom linearIntRandom categoricalRandom fromWhole toSigned le streamOf nextOf wholeDrawOf wholeAt rangeOk sqrtOf expOf hornerOf reducedOf scaledOf wholeOf nearestOf roundOf lnOf normal field digits mantissaOf exponentOf halvedOf seriesOf series ofBits toBits round add sub mul div neg lt isNan ofInt
-returns c = record { a = refl; b = refl; c = refl; b-choice = refl; c-int = refl; d = refl; e = refl; f = refl; g = refl; h = refl; i = refl }
+unfolding normCdfOf expectedImprovementOf shapeOf intShape intStep categoricalShape boundsOf endsOf fromInternalOf decodedOf intGrid sampleRandomOf randomOf intRandom linearIntRandom categoricalRandom fromWhole toSigned le streamOf nextOf wholeDrawOf wholeAt rangeOk sqrtOf expOf hornerOf reducedOf scaledOf wholeOf nearestOf roundOf lnOf normal field digits mantissaOf exponentOf halvedOf seriesOf series ofBits toBits round add sub mul div neg lt isNan ofInt
+returns c = record { a = refl; b = refl; c = refl; b-choice = refl; c-int = refl; d = refl; e = refl; f = refl; g = refl; h = refl; i = refl; j = refl; k-above = refl; k-below = refl }
 
 pub cases-spec : {M : Type 1} → statement M
 cases-spec = tie.close (tie.spec returns)

@@ -1,0 +1,2 @@
+pub mod Improvement
+pub mod Normal
