@@ -1,10 +1,10 @@
 -- From the tests on x to the range of k, by monotone rounding, and what the tests pick. Assumes nothing.
 use mathlib.Core.Path.{_≡_, refl, sym, ap, _∙_, subst}
 use mathlib.Core.Logic.{_⊎_, inl, inr}
-use Prim.Native.Nat.{ℕ, zero, suc, _+_, _-_, _*_, _^_, _≤_, _<_}
+use Prim.Native.Nat.{ℕ, zero, suc, _+_, _-_, _*_, _≤_, _<_}
 use native.Mathlib.Omega.{arith}
 use mathlib.Core.Bool.{Bool, true, false, not, cond, true≢false}
-use lib.Dec.{T, leb, leb→le, nleb→lt, eqb→eq}
+use lib.Dec.{T, leb, leb→le, nleb→lt}
 use lib.IntN.{ℤ, pos, negsuc, negℤ}
 use lib.Ieee.{Float, nan, inf, fin, binary64, up, down, add, sub, mul, div, neg, fits, lt, le, ne, minus, ofInt, ofBits, isNan}
 use lib.Ieee.Compare.{nan-differs}

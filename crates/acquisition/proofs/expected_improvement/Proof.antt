@@ -1,5 +1,5 @@
 -- `expected_improvement` meets its contract, by the deviation. Assumes nothing.
-use mathlib.Core.Path.{_≡_, refl, sym, ap, _∙_}
+use mathlib.Core.Path.{sym}
 use Rattle.acquisition.specs.Improvement.{expectedImprovementOf}
 use borrow.Author.Needs.{needs}
 use Rattle.acquisition.proofs.expected_improvement.Statement.{statement}

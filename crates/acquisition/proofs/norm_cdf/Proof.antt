@@ -1,5 +1,5 @@
 -- `norm_cdf` meets its contract, by the tests. Assumes nothing.
-use mathlib.Core.Path.{_≡_, refl, sym, ap, _∙_}
+use mathlib.Core.Path.{sym}
 use lib.Ieee.{ofBits, ofInt, neg}
 use Rattle.acquisition.specs.Normal.{normCdfOf}
 use borrow.Author.Needs.{needs}

@@ -1,10 +1,7 @@
 -- `acquisition::norm_pdf` meets its contract: exp is never refused here. Assumes nothing.
-use mathlib.Core.Path.{_≡_, refl, sym, ap, _∙_, subst}
-use Prim.Native.Nat.{ℕ}
-use native.Mathlib.Omega.{arith}
-use lib.Ieee.{binary64, mul, ofBits, neg}
-use Rattle.arith.specs.declared.Outcome.the-variants.{Value, Refused}
-use Rattle.acquisition.specs.Normal.{normPdfOf, made}
+use mathlib.Core.Path.{sym, _∙_}
+use lib.Ieee.{ofBits, neg}
+use Rattle.acquisition.specs.Normal.{normPdfOf}
 use Rattle.acquisition.proofs.Accepted.{never-refused, density-accepted}
 use borrow.Author.Needs.{needs}
 use Rattle.acquisition.proofs.norm_pdf.Statement.{statement}

@@ -1,10 +1,9 @@
 -- `size` meets its contract, by the sign. Assumes nothing.
-use mathlib.Core.Path.{_≡_, refl, sym, ap, _∙_, subst}
+use mathlib.Core.Path.{_≡_, refl, sym, ap, subst}
 use mathlib.Core.Logic.{_⊎_, inl, inr}
-use mathlib.Core.Bool.{Bool, true, false, not, true≢false}
-use lib.Dec.{T, T-not, eqb→eq}
-use lib.IntN.{ℤ, pos, negsuc}
-use Prim.Native.Nat.{ℕ, zero, suc, _*_, _^_, _<_}
+use mathlib.Core.Bool.{true, false, not, true≢false}
+use lib.Dec.{T, T-not}
+use Prim.Native.Nat.{ℕ, zero, suc}
 use native.Mathlib.Nat.{suc-ne-zero}
 use lib.Ieee.{Float, nan, inf, fin, binary64, fits, neg, lt, eq, ofBits}
 use Rattle.arith.specs.Bounds.{abs}

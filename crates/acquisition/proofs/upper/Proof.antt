@@ -1,5 +1,5 @@
 -- `upper` meets its contract. Assumes nothing.
-use mathlib.Core.Path.{_≡_, refl, sym, ap, _∙_}
+use mathlib.Core.Path.{sym}
 use lib.Ieee.{ofBits, ofInt}
 use Rattle.acquisition.specs.Normal.{upperOf}
 use borrow.Author.Needs.{needs}

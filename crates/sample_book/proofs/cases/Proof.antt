@@ -1,10 +1,8 @@
 -- `sample_book::cases` meets its contract: each case is computed. Assumes nothing.
-use mathlib.Core.Path.{_≡_, refl}
-use lib.IntN.{pos}
-use lib.Ieee.{binary64, ofBits, toBits, round, add, sub, mul, div, neg, lt, le, isNan, ofInt, toSigned}
+use mathlib.Core.Path.{refl}
+use lib.Ieee.{ofBits, toBits, round, add, sub, mul, div, neg, lt, le, isNan, ofInt, toSigned}
 use Rattle.arith.specs.Exp.{expOf, hornerOf, reducedOf, scaledOf, wholeOf}
 use Rattle.arith.specs.Ln.{lnOf, normal, field, digits, mantissaOf, exponentOf, halvedOf, seriesOf, series}
-use Rattle.arith.specs.Outcome.{wordOf}
 use Rattle.arith.specs.Rounding.{nearestOf, roundOf}
 use Rattle.arith.specs.Sqrt.{sqrtOf}
 use Rattle.distribution.specs.Shape.{shapeOf, intShape, intStep, categoricalShape}
