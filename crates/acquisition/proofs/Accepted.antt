@@ -3,27 +3,24 @@ use mathlib.Core.Path.{_≡_, refl, sym, ap, _∙_, subst}
 use mathlib.Core.Logic.{_⊎_, inl, inr}
 use Prim.Native.Nat.{ℕ, _*_}
 use native.Mathlib.Nat.{mul-pos}
-use mathlib.Core.Bool.{Bool, true, false, not, cond, true≢false}
+use mathlib.Core.Bool.{Bool, true, false, not, cond}
 use lib.Dec.{eqb}
 use lib.IntN.{ℤ, pos, negsuc}
 use lib.Ieee.{Float, nan, inf, fin, binary64, up, down, unlike, round, add, sub, mul, div, lt, le, ofBits, ofInt}
 use lib.Ieee.Fits.{down-pos}
 use Rattle.arith.specs.declared.Outcome.{Outcome}
-use Rattle.arith.specs.declared.Outcome.the-variants.{Value, Refused}
+use Rattle.arith.specs.declared.Outcome.the-variants.{Value}
 use Rattle.arith.specs.Bounds.{abs, real, negative, Sign}
 use Rattle.arith.specs.Choice.{positivePart}
 use Rattle.arith.specs.Exp.{expOf}
-use Rattle.arith.specs.Outcome.{pick}
+use Rattle.arith.specs.Outcome.{made, pick, valueOf}
 use Rattle.arith.proofs.ChoiceLaws.{positive-part, positive-part-real}
-use Rattle.arith.proofs.ExpLaws.{exp-nan, exp-nonpositive}
+use Rattle.arith.proofs.Accepted.{Accepted, accepted-value, exp-accepted, made-accepted, pick-accepted}
 use Rattle.arith.proofs.Sign.{sign-round}
 use Rattle.arith.proofs.Within.{negative-round}
-use Rattle.acquisition.specs.Normal.{made, one, normPdfOf, upperOf, normCdfOf}
+use Rattle.acquisition.specs.Accepts.{ImprovementAccepts}
+use Rattle.acquisition.specs.Normal.{one, normPdfOf, upperOf, normCdfOf}
 use Rattle.acquisition.specs.Improvement.{both, expectedImprovementOf}
-
--- an answer that is a value
-abbrev pub Accepted : Outcome → Type 0
-Accepted o = (v : Float) × (o ≡ Value v)
 
 -- ---- -0.5 × x × x
 opposite : (s : Bool) → unlike (not s) s ≡ true
@@ -52,23 +49,9 @@ square (fin s m e) = product s m e (mul binary64 (ofBits binary64 0xbfe000000000
     sign true = unfold mul ofBits in negative-round binary64 false (1 * (m * up e)) (2 * down e)
     sign false = unfold mul ofBits in negative-round binary64 true (1 * (m * up e)) (2 * down e)
 
-pub exp-accepted : (y : Float) → (y ≡ nan) ⊎ Sign true y → Accepted (expOf y)
-exp-accepted y (inl e) = (nan, ap expOf e ∙ exp-nan)
-exp-accepted y (inr h) = let a = exp-nonpositive y h in (a .0, a .1)
-
-abbrev is-value : Outcome → Bool
-is-value (Value v) = true
-is-value (Refused n) = false
-
-pub never-refused : (o : Outcome) (n : ℕ) → Accepted o → o ≡ Refused n → ⊥
-never-refused o n a r = true≢false (ap is-value (sym (a .1) ∙ r))
-
 -- the exp of the density
 pub density-accepted : (x : Float) → Accepted (expOf (mul binary64 (mul binary64 (ofBits binary64 0xbfe0000000000000) x) x))
 density-accepted x = exp-accepted _ (square x)
-
-made-accepted : (f : Float → Float) (o : Outcome) → Accepted o → Accepted (made f o)
-made-accepted f o a = (f (a .0), ap (made f) (a .1))
 
 pub pdf-accepted : (x : Float) → Accepted (normPdfOf x)
 unfolding normPdfOf
@@ -77,10 +60,6 @@ pdf-accepted x = made-accepted _ _ (density-accepted x)
 pub upper-accepted : (x : Float) → Accepted (upperOf x)
 unfolding upperOf
 upper-accepted x = made-accepted _ _ (pdf-accepted x)
-
-pick-accepted : (b : Bool) (o p : Outcome) → Accepted o → Accepted p → Accepted (pick b o p)
-pick-accepted true o p a c = a
-pick-accepted false o p a c = c
 
 pub cdf-accepted : (x : Float) → Accepted (normCdfOf x)
 unfolding normCdfOf
@@ -111,7 +90,8 @@ improves mean std best = go (lt std (ofBits binary64 0x3d719799812dea11))
     go true = (d, refl)
     go false = both-improves (λ p q. add binary64 (mul binary64 d p) (mul binary64 std q)) _ _ (cdf-accepted (div binary64 d std)) (pdf-accepted (div binary64 d std))
 
--- accepted for every three floats, never a NaN, never below 0
-pub improvement-accepted : (mean std best : Float) → (v : Float) × (expectedImprovementOf mean std best ≡ Value v) × real v × Sign false v
-improvement-accepted mean std best =
-    let i = improves mean std best in (positivePart (i .0), i .1, positive-part-real (i .0), positive-part (i .0))
+pub improvement-accepts : ImprovementAccepts
+improvement-accepts mean std best =
+    let i = improves mean std best in
+    let e : positivePart (i .0) ≡ valueOf (expectedImprovementOf mean std best) = sym (ap valueOf (i .1)) in
+    (accepted-value _ (positivePart (i .0), i .1), subst real e (positive-part-real (i .0)), subst (Sign false) e (positive-part (i .0)))

@@ -3,8 +3,8 @@ use lib.Ieee.{Float, binary64, add, sub, mul, div, lt, ofBits}
 use Rattle.arith.specs.declared.Outcome.{Outcome}
 use Rattle.arith.specs.declared.Outcome.the-variants.{Value, Refused}
 use Rattle.arith.specs.Choice.{positivePart}
-use Rattle.arith.specs.Outcome.{pick}
-use Rattle.acquisition.specs.Normal.{made, normPdfOf, normCdfOf}
+use Rattle.arith.specs.Outcome.{made, pick}
+use Rattle.acquisition.specs.Normal.{normPdfOf, normCdfOf}
 
 -- of two answers, or the first refusal
 abbrev pub both : (Float → Float → Float) → Outcome → Outcome → Outcome

@@ -1,2 +1,3 @@
+pub mod Accepts
 pub mod Improvement
 pub mod Normal

@@ -3,15 +3,10 @@ use mathlib.Core.Bool.{cond}
 use lib.IntN.{pos, negsuc}
 use lib.Ieee.{Float, binary64, add, sub, mul, div, lt, le, ofBits, ofInt}
 use Rattle.arith.specs.declared.Outcome.{Outcome}
-use Rattle.arith.specs.declared.Outcome.the-variants.{Value, Refused}
+use Rattle.arith.specs.declared.Outcome.the-variants.{Value}
 use Rattle.arith.specs.Bounds.{abs}
 use Rattle.arith.specs.Exp.{expOf}
-use Rattle.arith.specs.Outcome.{pick}
-
--- what is made of a value; a refusal is passed on
-abbrev pub made : (Float → Float) → Outcome → Outcome
-made f (Value v) = Value (f v)
-made f (Refused n) = Refused n
+use Rattle.arith.specs.Outcome.{made, pick}
 
 abbrev pub one : Float
 one = ofInt binary64 (pos 1)

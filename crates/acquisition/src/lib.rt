@@ -1,23 +1,10 @@
 // The normal distribution and expected improvement, with the Rust's names and constants.
 ghost use mathlib.Core.Path.{_≡_};
 ghost use Rattle.arith.specs.declared.Outcome.the-variants.{Value};
-ghost use Rattle.arith.specs.Bounds.{abs};
+ghost use Rattle.acquisition.specs.Accepts.{ImprovementAccepts};
 ghost use Rattle.acquisition.specs.Normal.{normPdfOf, polynomialOf, upperOf, normCdfOf};
 ghost use Rattle.acquisition.specs.Improvement.{expectedImprovementOf};
 use arith::Outcome;
-
-// The size of x: Rust's f64::abs.
-fn size(x: f64) -> f64
-    ensures { λ r. ⌜ r ≡ abs x ⌝ }
-{
-    if x < 0.0 {
-        return -x;
-    }
-    if x == 0.0 {
-        return 0.0;
-    }
-    x
-}
 
 // The standard normal density.
 pub fn norm_pdf(x: f64) -> f64
@@ -57,7 +44,7 @@ pub fn norm_cdf(x: f64) -> f64
     if x > 8.0 {
         return 1.0;
     }
-    let cdf = upper(size(x));
+    let cdf = upper(arith::abs(x));
     if x >= 0.0 { cdf } else { 1.0 - cdf }
 }
 
@@ -71,3 +58,8 @@ pub fn expected_improvement(mean: f64, std: f64, f_best: f64) -> f64
     let z = (f_best - mean) / std;
     arith::positive_part((f_best - mean) * norm_cdf(z) + std * norm_pdf(z))
 }
+
+// Every three floats have an improvement, no NaN and not below 0: a theorem, as a contract.
+pub fn improvement_accepts()
+    ensures { λ _. ⌜ ImprovementAccepts ⌝ }
+{}

@@ -1,8 +1,10 @@
 pub mod Tests
+pub mod Accepted
 pub mod Back
 pub mod HalfUnit
 pub mod Held
 pub mod Horner
+pub mod Lists
 pub mod LnLaws
 pub mod LnMono
 pub mod LnSize

@@ -13,7 +13,7 @@ use lib.Ieee.Fits.{up-pos, down-pos}
 use lib.Ieee.Scale.{finite}
 use Rattle.arith.specs.Bounds.{Sign}
 use Rattle.arith.specs.Sqrt.{sqrtOf, rootOf}
-use Rattle.arith.proofs.Order.{le→}
+use Rattle.arith.proofs.Order.{LeS, le→, →le}
 use Rattle.arith.proofs.Zero.{no-digits, zero-lt}
 use Rattle.arith.proofs.Mono.{round-signed, zero-round, not-less}
 
@@ -24,6 +24,23 @@ bit-of false false m e h = inl refl
 bit-of true true m e h = inl refl
 bit-of false true m e h = inr (no-digits m e (let k = le→ false (0 * 1 * down e) true (m * up e * 1) h in omega arith))
 bit-of true false m e h = inr (no-digits m e (let k = le→ false (m * up e * 1) false (0 * 1 * down e) h in omega arith))
+
+pub zero-sign : (s a : Bool) (e : ℤ) → Sign s (fin a 0 e)
+unfolding le ofBits
+zero-sign false a e = →le false (0 * 1 * down e) a (0 * up e * 1) (go a)
+  where
+    go : (a : Bool) → LeS false (0 * 1 * down e) a (0 * up e * 1)
+    go true = omega arith
+    go false = omega arith
+zero-sign true a e = →le a (0 * up e * 1) false (0 * 1 * down e) (go a)
+  where
+    go : (a : Bool) → LeS a (0 * up e * 1) false (0 * 1 * down e)
+    go true = tt
+    go false = omega arith
+
+pub plus-sign : (m : ℕ) (e : ℤ) → Sign false (fin false m e)
+unfolding le ofBits
+plus-sign m e = →le false (0 * 1 * down e) false (m * up e * 1) (omega arith)
 
 -- ---- rounding keeps the sign, and a zero has both
 pub sign-round : (s : Bool) (n d : ℕ) → 0 < d → Sign s (round binary64 s n d)

@@ -1,7 +1,21 @@
-// The larger of a value and a limit, and the least of several values.
+// The size of a value, the larger of a value and a limit, and the least of several values.
 ghost use mathlib.Core.Path.{_≡_};
 ghost use lib.ListN.{length};
+ghost use Rattle.arith.specs.Bounds.{abs};
 ghost use Rattle.arith.specs.Choice.{atLeast, positivePart, lesserOf, leastOf};
+
+// The size of x: Rust's f64::abs.
+pub fn abs(x: f64) -> f64
+    ensures { λ r. ⌜ r ≡ abs x ⌝ }
+{
+    if x < 0.0 {
+        return -x;
+    }
+    if x == 0.0 {
+        return 0.0;
+    }
+    x
+}
 
 // v where it is above the limit, else the limit: Rust's max. A NaN gives the limit.
 pub fn at_least(v: f64, limit: f64) -> f64

@@ -11,6 +11,7 @@ pub mod rounding;
 pub mod sums;
 pub mod words;
 
+pub use choice::abs;
 pub use choice::at_least;
 pub use choice::least;
 pub use choice::lesser;

@@ -4,6 +4,11 @@ use crate::distribution::Distribution;
 use crate::param::ParamValue;
 use crate::sampler::common;
 
+pub use crate::sampler::gp::lent::{
+    Model, expected_improvement, fit_gp, from_normalized, matern52, norm_cdf, norm_pdf,
+    to_normalized,
+};
+
 pub fn internal_bounds(distribution: &Distribution) -> Option<(f64, f64)> {
     common::internal_bounds(distribution)
 }

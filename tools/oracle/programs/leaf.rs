@@ -4,9 +4,10 @@ use arithmetic::generator::{self, Draw};
 use arithmetic::{OUT_OF_DOMAIN, Refusal, float};
 use leaf_lines::{Answer, Leaf, answer_input, float_to_word, word_to_float};
 use optimizer::distribution::Distribution;
-use optimizer::leaves;
+use optimizer::leaves::{self, Model};
 use optimizer::param::ParamValue;
 use records::{CHOICE, DistributionWords, FLOAT, INT};
+use training::{Training, floats, is_point, take};
 
 /// The leaves by name. A new leaf is one more line here and a function of its words.
 const LEAVES: &[(&str, Leaf)] = &[
@@ -25,6 +26,15 @@ const LEAVES: &[(&str, Leaf)] = &[
     ("from_internal", from_internal),
     ("to_internal", to_internal),
     ("sample_random", sample_random),
+    ("norm_pdf", |words| float_leaf(words, |x| Ok(leaves::norm_pdf(x)))),
+    ("norm_cdf", |words| float_leaf(words, |x| Ok(leaves::norm_cdf(x)))),
+    ("expected_improvement", |words| leaf_of_three(words, leaves::expected_improvement)),
+    ("matern52", matern52),
+    ("to_normalized", |words| leaf_of_three(words, leaves::to_normalized)),
+    ("from_normalized", |words| leaf_of_three(words, leaves::from_normalized)),
+    ("fit_gp", fit_gp),
+    ("predict", predict),
+    ("optimize_acquisition", optimize_acquisition),
 ];
 
 fn next(words: &[u64]) -> Option<Answer> {
@@ -48,6 +58,13 @@ fn whole(words: &[u64]) -> Option<Answer> {
 fn float_leaf(words: &[u64], f: fn(f64) -> Result<f64, Refusal>) -> Option<Answer> {
     let &[x] = words else { return None };
     Some(f(word_to_float(x)).map(|y| vec![float_to_word(y)]))
+}
+
+/// A leaf from three floats to one float.
+fn leaf_of_three(words: &[u64], f: fn(f64, f64, f64) -> f64) -> Option<Answer> {
+    let &[a, b, c] = words else { return None };
+    let y = f(word_to_float(a), word_to_float(b), word_to_float(c));
+    Some(Ok(vec![float_to_word(y)]))
 }
 
 /// A draw's value, the words drawn and the generator's next word.
@@ -129,6 +146,61 @@ fn draw_value(state: u64, d: &Distribution) -> Answer {
     let mut rng = fastrand::Rng::with_seed(state);
     let [kind, value] = value_words(&leaves::sample_random(&mut rng, d));
     Ok(vec![kind, value, rng.drawn(), rng.state()])
+}
+
+/// The number of coordinates, two points, the lengthscales and the signal variance.
+fn matern52(words: &[u64]) -> Option<Answer> {
+    let (&d, rest) = words.split_first()?;
+    let (x1, rest) = take(rest, d)?;
+    let (x2, rest) = take(rest, d)?;
+    let (lengthscales, rest) = take(rest, d)?;
+    let &[signal_var] = rest else { return None };
+    let (x1, x2, lengthscales) = (floats(x1), floats(x2), floats(lengthscales));
+    let k = leaves::matern52(&x1, &x2, &lengthscales, word_to_float(signal_var));
+    Some(Ok(vec![float_to_word(k)]))
+}
+
+fn fit_gp(words: &[u64]) -> Option<Answer> {
+    let (training, []) = Training::read(words)? else { return None };
+    Some(training.fit().map(|model| model_words(&model)))
+}
+
+/// The best value, the lengthscales, the weights and the factor.
+fn model_words(model: &Model) -> Vec<u64> {
+    let lists = [&[model.best()], model.lengthscales(), model.weights(), &model.factor()];
+    lists.concat().into_iter().map(float_to_word).collect()
+}
+
+/// The training data and then a point.
+fn predict(words: &[u64]) -> Option<Answer> {
+    let (training, rest) = Training::read(words)?;
+    let (point, []) = take(rest, training.columns())? else { return None };
+    Some(training.fit().and_then(|model| prediction(&model, &floats(point))))
+}
+
+fn prediction(model: &Model, point: &[f64]) -> Answer {
+    if !is_point(point) {
+        return Err(OUT_OF_DOMAIN);
+    }
+    let (mean, std) = model.predict(point);
+    Ok(vec![float_to_word(mean), float_to_word(std)])
+}
+
+/// The training data, the number of candidates and the generator's word.
+fn optimize_acquisition(words: &[u64]) -> Option<Answer> {
+    let (training, &[candidates, state]) = Training::read(words)? else { return None };
+    Some(training.fit().and_then(|model| search(&model, candidates, state)))
+}
+
+/// The point found and the generator's next word.
+fn search(model: &Model, candidates: u64, state: u64) -> Answer {
+    if state == 0 {
+        return Err(OUT_OF_DOMAIN);
+    }
+    let mut rng = fastrand::Rng::with_seed(state);
+    let columns = model.lengthscales().len();
+    let point = model.optimize_acquisition(columns, candidates as usize, &mut rng);
+    Ok(point.into_iter().map(float_to_word).chain([rng.state()]).collect())
 }
 
 fn well_formed(words: &DistributionWords) -> Result<Distribution, Refusal> {

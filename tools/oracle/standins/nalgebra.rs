@@ -40,6 +40,10 @@ impl<T: Copy> DVector<T> {
     pub fn from_column_slice(elements: &[T]) -> Self {
         Self { elements: elements.to_vec() }
     }
+
+    pub fn as_slice(&self) -> &[T] {
+        &self.elements
+    }
 }
 
 impl DVector<f64> {
@@ -88,6 +92,16 @@ pub mod linalg {
                 columns: (0..rows.len()).map(below).collect(),
                 dimension: PhantomData,
             }
+        }
+
+        /// The rows of L up to the diagonal, one after the other: for the program `leaf`, which
+        /// answers them. The crate `nalgebra` has no such method.
+        pub fn l_rows(&self) -> Vec<f64> {
+            let row = |i: usize| {
+                let left = self.columns[..i].iter().enumerate().map(move |(j, c)| c[i - j - 1]);
+                left.chain([self.diagonal[i]])
+            };
+            (0..self.diagonal.len()).flat_map(row).collect()
         }
 
         /// x with L * L^T * x = b.

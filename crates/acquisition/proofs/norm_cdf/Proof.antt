@@ -14,20 +14,20 @@ returns-2 : tie.Need-returns-2
 unfolding normCdfOf ofBits ofInt neg
 returns-2 c = rw (c .before .if1 .left, c .if2 .taken)
 
-size-requires : tie.Need-size-requires
-size-requires c κs = search needs
+abs-requires : tie.Need-abs-requires
+abs-requires c κs = search needs
 
 upper-requires : tie.Need-upper-requires
 upper-requires c κs = search needs
 
 returns-3 : tie.Need-returns-3
 unfolding normCdfOf ofBits ofInt neg
-returns-3 c = rw (c .before .before .before .before .if1 .left, c .before .before .before .if2 .left, c .if3 .taken, sym (c .before .before .size .ensures), sym (c .before .upper .ensures))
+returns-3 c = rw (c .before .before .before .before .if1 .left, c .before .before .before .if2 .left, c .if3 .taken, sym (c .before .before .abs .ensures), sym (c .before .upper .ensures))
 
 returns-4 : tie.Need-returns-4
 unfolding normCdfOf ofBits ofInt neg
-returns-4 c = rw (c .before .before .before .before .if1 .left, c .before .before .before .if2 .left, c .if3 .left, sym (c .before .before .size .ensures), sym (c .before .upper .ensures))
+returns-4 c = rw (c .before .before .before .before .if1 .left, c .before .before .before .if2 .left, c .if3 .left, sym (c .before .before .abs .ensures), sym (c .before .upper .ensures))
 
 pub norm-cdf-spec : {M : Type 1} → statement M
 norm-cdf-spec =
-    tie.close (tie.spec returns returns-2 size-requires upper-requires returns-3 returns-4)
+    tie.close (tie.spec returns returns-2 abs-requires upper-requires returns-3 returns-4)

@@ -2,7 +2,8 @@
 use mathlib.Core.Path.{sym, _∙_}
 use lib.Ieee.{ofBits, neg}
 use Rattle.acquisition.specs.Normal.{normPdfOf}
-use Rattle.acquisition.proofs.Accepted.{never-refused, density-accepted}
+use Rattle.arith.proofs.Accepted.{never-refused}
+use Rattle.acquisition.proofs.Accepted.{density-accepted}
 use borrow.Author.Needs.{needs}
 use Rattle.acquisition.proofs.norm_pdf.Statement.{statement}
 use Rattle.acquisition.proofs.norm_pdf.Tie as tie

@@ -117,7 +117,7 @@ pub fn whole_random(rng: &mut SplitMix64) -> u64 {
 }
 
 /// Zeros, subnormals, infinities, NaN patterns, and halves and whole numbers of some sizes.
-fn common_edges() -> Vec<u64> {
+pub fn common_edges() -> Vec<u64> {
     let ends = [0, 1, 2, 1 << 51, (1 << 52) - 1, 1 << 52, (1 << 52) + 1]
         .into_iter()
         .chain([f64::MAX.to_bits(), f64::INFINITY.to_bits()]);
@@ -131,14 +131,14 @@ fn common_edges() -> Vec<u64> {
 }
 
 /// Every power of two, subnormal ones too, and its neighbours.
-fn powers_of_two() -> Vec<u64> {
+pub fn powers_of_two() -> Vec<u64> {
     let subnormal = (0..52).map(|bit| 1 << bit);
     let normal = (1..=2046).map(|exponent| exponent << 52);
     both_signs(subnormal.chain(normal).flat_map(neighbours).collect())
 }
 
 /// The float where exp's k goes from `k` to the next whole number, or one next to it.
-fn exp_split(k: i64) -> u64 {
+pub fn exp_split(k: i64) -> u64 {
     ((k as f64 + 0.5) / LOG2_E).to_bits()
 }
 
@@ -189,11 +189,11 @@ pub fn around(x: f64) -> [f64; 3] {
     [x.next_down(), x, x.next_up()]
 }
 
-fn neighbours(word: u64) -> [u64; 3] {
+pub fn neighbours(word: u64) -> [u64; 3] {
     [word.wrapping_sub(1), word, word.wrapping_add(1)]
 }
 
-fn both_signs(words: Vec<u64>) -> Vec<u64> {
+pub fn both_signs(words: Vec<u64>) -> Vec<u64> {
     words.into_iter().flat_map(|word| [word, word ^ SIGN]).collect()
 }
 

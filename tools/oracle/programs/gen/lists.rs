@@ -5,16 +5,16 @@ use std::collections::HashSet;
 use std::hash::Hash;
 
 /// The first item of each list, then the second of each, and so on to the end of the longest.
-pub fn alternated<T: Copy + Eq + Hash, const N: usize>(lists: [Vec<T>; N]) -> Vec<T> {
+pub fn alternated<T: Clone + Eq + Hash, const N: usize>(lists: [Vec<T>; N]) -> Vec<T> {
     let length = lists.iter().map(Vec::len).max().unwrap_or(0);
     let rows = (0..length).flat_map(|row| lists.iter().filter_map(move |list| list.get(row)));
-    distinct(rows.copied().collect())
+    distinct(rows.cloned().collect())
 }
 
 /// Without those that were there before.
-pub fn distinct<T: Copy + Eq + Hash>(items: Vec<T>) -> Vec<T> {
+pub fn distinct<T: Clone + Eq + Hash>(items: Vec<T>) -> Vec<T> {
     let mut seen = HashSet::new();
-    items.into_iter().filter(|&item| seen.insert(item)).collect()
+    items.into_iter().filter(|item| seen.insert(item.clone())).collect()
 }
 
 /// The same items in a fixed order without a pattern.

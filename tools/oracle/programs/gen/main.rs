@@ -1,5 +1,6 @@
 //! `gen NAME COUNT SEED [--from N] [--skip-edges] [--unreadable PERCENT]`: writes lines of leaf calls.
 //! `gen --names`: writes the names of the leaves.
+//! `gen --searches COLUMNS CANDIDATES COUNT`: writes searches to be timed.
 //!
 //! The lines of a name are its edges and then random ones without end. A line depends on the seed
 //! and on its own number alone. `--from N` leaves out the first N lines, `--skip-edges` all edges.
@@ -9,11 +10,18 @@ mod distribution_limits;
 mod distributions;
 mod draws;
 mod equal;
+mod fits;
 mod floats;
 mod internal;
+mod kernel;
 mod lists;
+mod normal;
+mod predictions;
 mod random_distributions;
+mod random_fits;
 mod random_values;
+mod scales;
+mod searches;
 mod unreadable;
 mod values;
 
@@ -59,7 +67,19 @@ const LEAVES: &[(&str, Calls)] = &[
     ("from_internal", Calls::Words(internal::edges, internal::random)),
     ("to_internal", Calls::Words(values::to_internal_edges, values::to_internal_random)),
     ("sample_random", Calls::Words(random_values::edges, random_values::random)),
+    ("norm_pdf", Calls::OneWord(normal::edges, normal::random)),
+    ("norm_cdf", Calls::OneWord(normal::edges, normal::random)),
+    ("expected_improvement", Calls::Words(normal::improvement_edges, normal::improvement_random)),
+    ("matern52", Calls::Words(kernel::edges, kernel::random)),
+    ("to_normalized", Calls::Words(scales::edges, scales::random)),
+    ("from_normalized", Calls::Words(scales::edges, scales::random)),
+    ("fit_gp", Calls::Words(fits::edges, fits::random)),
+    ("predict", Calls::Words(predictions::edges, predictions::random)),
+    ("optimize_acquisition", Calls::Words(searches::edges, searches::random)),
 ];
+
+/// The leaf that is timed.
+const SEARCH: &str = "optimize_acquisition";
 
 struct Options {
     name: &'static str,
@@ -131,18 +151,31 @@ fn write_lines(options: &Options) -> io::Result<()> {
     output.flush()
 }
 
+/// None where the three numbers cannot be read.
+fn write_searches(arguments: impl Iterator<Item = String>) -> Option<io::Result<()>> {
+    let numbers: Vec<u64> =
+        arguments.map(|argument| argument.parse().ok()).collect::<Option<_>>()?;
+    let &[columns, candidates, count] = &numbers[..] else { return None };
+    let search = |number| line(SEARCH, &searches::timed(columns, candidates, number));
+    let text: Vec<u8> =
+        (0..count).flat_map(|number| [search(number), vec![b'\n']].concat()).collect();
+    Some(io::stdout().write_all(&text))
+}
+
+fn write_names() -> io::Result<()> {
+    LEAVES.iter().try_for_each(|(name, _)| writeln!(io::stdout(), "{name}"))
+}
+
 fn main() -> io::Result<()> {
-    if std::env::args().nth(1).as_deref() == Some("--names") {
-        LEAVES.iter().for_each(|(name, _)| println!("{name}"));
-        return Ok(());
-    }
-    match parse_options(std::env::args().skip(1)) {
-        Some(options) => write_lines(&options),
-        None => {
-            eprintln!(
-                "usage: gen NAME COUNT SEED [--from N] [--skip-edges] [--unreadable PERCENT]"
-            );
-            std::process::exit(2);
-        }
-    }
+    let arguments = std::env::args().skip(1);
+    let written = match std::env::args().nth(1).as_deref() {
+        Some("--names") => Some(write_names()),
+        Some("--searches") => write_searches(arguments.skip(1)),
+        _ => parse_options(arguments).map(|options| write_lines(&options)),
+    };
+    written.unwrap_or_else(|| {
+        eprintln!("usage: gen NAME COUNT SEED [--from N] [--skip-edges] [--unreadable PERCENT]");
+        eprintln!("   or: gen --names, gen --searches COLUMNS CANDIDATES COUNT");
+        std::process::exit(2);
+    })
 }

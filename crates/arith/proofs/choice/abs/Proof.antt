@@ -1,4 +1,4 @@
--- `size` meets its contract, by the sign. Assumes nothing.
+-- `arith::choice::abs` meets its contract, by the sign. Assumes nothing.
 use mathlib.Core.Path.{_≡_, refl, sym, ap, subst}
 use mathlib.Core.Logic.{_⊎_, inl, inr}
 use mathlib.Core.Bool.{true, false, not, true≢false}
@@ -6,13 +6,12 @@ use lib.Dec.{T, T-not}
 use Prim.Native.Nat.{ℕ, zero, suc}
 use native.Mathlib.Nat.{suc-ne-zero}
 use lib.Ieee.{Float, nan, inf, fin, binary64, fits, neg, lt, eq, ofBits}
 use Rattle.arith.specs.Bounds.{abs}
-use Rattle.arith.proofs.Zero.{zeroF, lt-zero, not-lt-zero, eq-zero, zero-eq}
+use Rattle.arith.proofs.Zero.{zeroF, zero-exponent, lt-zero, not-lt-zero, eq-zero, zero-eq}
 use Rattle.arith.proofs.Tests.{taken, untaken}
-use Rattle.arith.proofs.Zero.{zero-exponent}
 use borrow.Author.Needs.{needs}
-use Rattle.acquisition.proofs.size.Statement.{statement}
-use Rattle.acquisition.proofs.size.Tie as tie
+use Rattle.arith.proofs.choice.abs.Statement.{statement}
+use Rattle.arith.proofs.choice.abs.Tie as tie
 
 below : (x : Float) → T (lt x zeroF) → neg x ≡ abs x
 unfolding neg
@@ -54,5 +53,5 @@ returns-2 c = even (c .before .before .args .x) (held (c .before .before)) (take
 returns-3 : tie.Need-returns-3
 returns-3 c = above (c .before .before .args .x) (untaken (c .before .if1 .left)) (untaken (c .if2 .left))
 
-pub size-spec : {M : Type 1} → statement M
-size-spec = tie.close (tie.spec returns returns-2 returns-3)
+pub abs-spec : {M : Type 1} → statement M
+abs-spec = tie.close (tie.spec returns returns-2 returns-3)

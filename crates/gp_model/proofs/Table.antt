@@ -1,0 +1,13 @@
+-- Where a table's cell lies: within the table, and within 2,000 places. Assumes nothing.
+use Prim.Native.Nat.{ℕ, suc, _+_, _*_, _≤_, _<_}
+use native.Mathlib.Nat.{mul-le-mul, mul-le-mul-right, suc-mul}
+use native.Mathlib.Omega.{arith}
+
+pub row-end : (i n d : ℕ) → i < n → i * d + d ≤ n * d
+row-end i n d h = let e = suc-mul i d in let l : suc i * d ≤ n * d = mul-le-mul-right d h in omega arith
+
+pub table-small : (n d : ℕ) → n ≤ 100 → d ≤ 20 → n * d ≤ 2000
+table-small n d p q = mul-le-mul p q
+
+pub row-before : (j i d : ℕ) → j ≤ i → j * d + d ≤ i * d + d
+row-before j i d h = let l : j * d ≤ i * d = mul-le-mul-right d h in omega arith

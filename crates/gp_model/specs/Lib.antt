@@ -1,0 +1,7 @@
+pub mod Earliest
+pub mod Fit
+pub mod Kernels
+pub mod Predict
+pub mod Scaling
+pub mod Search
+pub mod Statistics

@@ -1,0 +1,68 @@
+//! Lends what `gp.rs` keeps to itself. `prepare` makes this a child module of it, which sees its
+//! private items.
+
+use super::GpModel;
+
+pub fn norm_pdf(x: f64) -> f64 {
+    super::norm_pdf(x)
+}
+
+pub fn norm_cdf(x: f64) -> f64 {
+    super::norm_cdf(x)
+}
+
+pub fn expected_improvement(mean: f64, std: f64, f_best: f64) -> f64 {
+    super::expected_improvement(mean, std, f_best)
+}
+
+pub fn matern52(x1: &[f64], x2: &[f64], lengthscales: &[f64], signal_var: f64) -> f64 {
+    super::matern52(x1, x2, lengthscales, signal_var)
+}
+
+pub fn to_normalized(value: f64, lo: f64, hi: f64) -> f64 {
+    super::to_normalized(value, lo, hi)
+}
+
+pub fn from_normalized(value: f64, lo: f64, hi: f64) -> f64 {
+    super::from_normalized(value, lo, hi)
+}
+
+/// A fitted model.
+pub struct Model(GpModel);
+
+pub fn fit_gp(x_train: &[Vec<f64>], y_train: &[f64], noise_var: f64) -> Option<Model> {
+    super::fit_gp(x_train, y_train, noise_var).map(Model)
+}
+
+impl Model {
+    pub fn best(&self) -> f64 {
+        self.0.f_best
+    }
+
+    pub fn lengthscales(&self) -> &[f64] {
+        &self.0.lengthscales
+    }
+
+    pub fn weights(&self) -> &[f64] {
+        self.0.alpha.as_slice()
+    }
+
+    /// The lower triangle, row after row.
+    pub fn factor(&self) -> Vec<f64> {
+        self.0.cholesky.l_rows()
+    }
+
+    /// Mean and standard deviation.
+    pub fn predict(&self, x: &[f64]) -> (f64, f64) {
+        super::predict(&self.0, x)
+    }
+
+    pub fn optimize_acquisition(
+        &self,
+        n_dims: usize,
+        n_candidates: usize,
+        rng: &mut fastrand::Rng,
+    ) -> Vec<f64> {
+        super::optimize_acquisition(&self.0, n_dims, n_candidates, rng)
+    }
+}
