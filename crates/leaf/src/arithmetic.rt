@@ -28,10 +28,7 @@ pub(crate) fn sqrt(args: &[u64], results: &mut Results) -> Reply
     if args.len() != 1 {
         return Reply::Unreadable;
     }
-    reply::one(
-        arith::word_of_float(arith::sqrt(arith::float_of_word(args[0]))),
-        results,
-    )
+    reply::float(arith::sqrt(arith::float_of_word(args[0])), results)
 }
 
 pub(crate) fn round(args: &[u64], results: &mut Results) -> Reply
@@ -40,10 +37,7 @@ pub(crate) fn round(args: &[u64], results: &mut Results) -> Reply
     if args.len() != 1 {
         return Reply::Unreadable;
     }
-    reply::one(
-        arith::word_of_float(arith::round(arith::float_of_word(args[0]))),
-        results,
-    )
+    reply::float(arith::round(arith::float_of_word(args[0])), results)
 }
 
 pub(crate) fn floor(args: &[u64], results: &mut Results) -> Reply
@@ -52,8 +46,5 @@ pub(crate) fn floor(args: &[u64], results: &mut Results) -> Reply
     if args.len() != 1 {
         return Reply::Unreadable;
     }
-    reply::one(
-        arith::word_of_float(arith::floor(arith::float_of_word(args[0]))),
-        results,
-    )
+    reply::float(arith::floor(arith::float_of_word(args[0])), results)
 }

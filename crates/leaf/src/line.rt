@@ -5,6 +5,8 @@ ghost use Rattle.leaf.specs.Counts.{ResultsFit, WordsFit};
 use crate::arithmetic;
 use crate::codings;
 use crate::draws;
+use crate::model;
+use crate::normal;
 use crate::reply::Reply;
 use crate::reply::Results;
 use word_text::Parsed;
@@ -75,6 +77,33 @@ fn call(name: &[u8], args: &[u64], results: &mut Results) -> Reply
     }
     if same(name, b"sample_random") {
         return codings::sample_random(args, results);
+    }
+    if same(name, b"norm_pdf") {
+        return normal::norm_pdf(args, results);
+    }
+    if same(name, b"norm_cdf") {
+        return normal::norm_cdf(args, results);
+    }
+    if same(name, b"expected_improvement") {
+        return normal::expected_improvement(args, results);
+    }
+    if same(name, b"matern52") {
+        return model::matern52(args, results);
+    }
+    if same(name, b"to_normalized") {
+        return normal::to_normalized(args, results);
+    }
+    if same(name, b"from_normalized") {
+        return normal::from_normalized(args, results);
+    }
+    if same(name, b"fit_gp") {
+        return model::fit_gp(args, results);
+    }
+    if same(name, b"predict") {
+        return model::predict(args, results);
+    }
+    if same(name, b"optimize_acquisition") {
+        return model::optimize_acquisition(args, results);
     }
     Reply::Unreadable
 }

@@ -7,6 +7,8 @@ mod codings;
 mod draws;
 mod input;
 mod line;
+mod model;
+mod normal;
 mod output;
 mod reply;
 

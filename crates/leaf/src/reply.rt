@@ -20,6 +20,13 @@ pub(crate) fn one(word: u64, results: &mut Results) -> Reply
     Reply::Accepted(1)
 }
 
+// One float.
+pub(crate) fn float(x: f64, results: &mut Results) -> Reply
+    ensures { λ r. ⌜ ResultsFit r ⌝ }
+{
+    one(arith::word_of_float(x), results)
+}
+
 // The answer of a function with a domain.
 pub(crate) fn outcome(o: arith::Outcome, results: &mut Results) -> Reply
     ensures { λ r. ⌜ ResultsFit r ⌝ }
