@@ -1,3 +1,4 @@
 pub mod Domain
 pub mod Earliest
+pub mod Passes
 pub mod Table

@@ -1,5 +1,6 @@
 pub mod Earliest
 pub mod Fit
+pub mod KernelParts
 pub mod Kernels
 pub mod Predict
 pub mod Scaling

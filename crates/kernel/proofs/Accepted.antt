@@ -16,7 +16,7 @@ use Rattle.arith.proofs.Accepted.{Accepted, accepted-value, exp-accepted, made-
 use Rattle.arith.proofs.Order as order
 use Rattle.arith.proofs.Sign.{mul-sign, plus-sign, sqrt-sign, zero-sign}
 use Rattle.kernel.specs.Accepts.{KernelAccepts}
-use Rattle.kernel.specs.Matern.{sqrt5, squaredDistanceOf, atOf, matern52Of}
+use Rattle.kernel.specs.Matern.{sqrt5, squaredDistanceOf, scaledRootOf, decayOf, atOf, matern52Of}
 
 root : (x : Float) → (sqrtOf x ≡ nan) ⊎ Sign false (sqrtOf x)
 root nan = inl (unfold sqrtOf in refl)
@@ -41,12 +41,9 @@ decay : (y : Float) → (y ≡ nan) ⊎ Sign false y → (neg (mul binary64 sqrt
 decay y (inl e) = inl (ap (λ (v : Float). neg (mul binary64 sqrt5 v)) e ∙ unfold mul neg ofBits in refl)
 decay y (inr h) = inr (negated _ (scaled y h))
 
-pub decay-accepted : (r2 : Float) → Accepted (expOf (neg (mul binary64 sqrt5 (sqrtOf r2))))
-decay-accepted r2 = exp-accepted _ (decay (sqrtOf r2) (root r2))
-
 pub at-accepted : (r2 s : Float) → Accepted (atOf r2 s)
-unfolding atOf
-at-accepted r2 s = made-accepted _ _ (decay-accepted r2)
+unfolding scaledRootOf decayOf
+at-accepted r2 s = made-accepted _ _ (exp-accepted _ (decay (sqrtOf r2) (root r2)))
 
 pub kernel-accepts : KernelAccepts
 unfolding matern52Of

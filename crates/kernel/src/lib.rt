@@ -1,13 +1,12 @@
 // The Matérn kernel, with the Rust's names and constant.
 ghost use mathlib.Core.Path.{_≡_};
 ghost use lib.ListN.{length};
-ghost use Rattle.arith.specs.declared.Outcome.the-variants.{Value};
 ghost use Rattle.kernel.specs.Accepts.{KernelAccepts};
-ghost use Rattle.kernel.specs.Matern.{squaredDistanceOf, atOf, matern52Of};
+ghost use Rattle.kernel.specs.Matern.{squaredDistanceOf, squaredOf, scaledRootOf, decayOf, matern52Of};
 use arith::Outcome;
 
-// The squared distance of two points, each column by its lengthscale.
-fn squared_distance(x1: &[f64], x2: &[f64], lengthscales: &[f64]) -> f64
+// The squared distance of two points of one length, each column by its lengthscale.
+fn distance(x1: &[f64], x2: &[f64], lengthscales: &[f64]) -> f64
     requires { ⌜ (length (now x1) ≡ length (now x2)) × (length (now x1) ≡ length (now lengthscales)) ⌝ }
     ensures { λ r. ⌜ r ≡ squaredDistanceOf (now (x1 .entry)) (now (x2 .entry)) (now (lengthscales .entry)) ⌝ }
 {
@@ -21,14 +20,35 @@ fn squared_distance(x1: &[f64], x2: &[f64], lengthscales: &[f64]) -> f64
     r_sq
 }
 
-// The kernel at a squared distance.
-fn at(r_sq: f64, signal_var: f64) -> f64
-    ensures { λ r. ⌜ Value r ≡ atOf «r_sq» «signal_var» ⌝ }
+// The same of any lists: 11 where they differ in length.
+pub fn squared_distance(x1: &[f64], x2: &[f64], lengthscales: &[f64]) -> Outcome
+    ensures { λ r. ⌜ r ≡ squaredOf (now (x1 .entry)) (now (x2 .entry)) (now (lengthscales .entry)) ⌝ }
 {
-    let sqrt5_r = 2.236213562373095 * arith::sqrt(r_sq);
+    if x1.len() != x2.len() {
+        return Outcome::Refused(11);
+    }
+    if x1.len() != lengthscales.len() {
+        return Outcome::Refused(11);
+    }
+    Outcome::Value(distance(x1, x2, lengthscales))
+}
+
+// The constant times the root of a squared distance.
+pub fn scaled_root(r_sq: f64) -> f64
+    ensures { λ r. ⌜ r ≡ scaledRootOf «r_sq» ⌝ }
+{
+    2.236213562373095 * arith::sqrt(r_sq)
+}
+
+// The kernel by a squared distance and its scaled root.
+pub fn decay(r_sq: f64, sqrt5_r: f64, signal_var: f64) -> Outcome
+    ensures { λ r. ⌜ r ≡ decayOf «r_sq» «sqrt5_r» «signal_var» ⌝ }
+{
     match arith::exp(-sqrt5_r) {
-        Outcome::Value(e) => signal_var * (1.0 + sqrt5_r + 5.0 / 3.0 * r_sq) * e,
-        Outcome::Refused(_) => 0.0,
+        Outcome::Value(e) => {
+            Outcome::Value(signal_var * (1.0 + sqrt5_r + 5.0 / 3.0 * r_sq) * e)
+        }
+        Outcome::Refused(n) => Outcome::Refused(n),
     }
 }
 
@@ -42,7 +62,8 @@ pub fn matern52(x1: &[f64], x2: &[f64], lengthscales: &[f64], signal_var: f64) -
     if x1.len() != lengthscales.len() {
         return Outcome::Refused(11);
     }
-    Outcome::Value(at(squared_distance(x1, x2, lengthscales), signal_var))
+    let r_sq = distance(x1, x2, lengthscales);
+    decay(r_sq, scaled_root(r_sq), signal_var)
 }
 
 // Points and lengthscales of one length have a value, whatever the floats: a theorem, as a contract.

@@ -1,72 +1,24 @@
--- `kernel::squared_distance` meets its contract: before each turn r_sq is the sum over the columns passed. Assumes nothing.
-use Prim.Native.Nat.{_≤_, _-_}
-use mathlib.Core.Path.{_≡_, refl}
-use native.Mathlib.Numerals.{add-one}
-use native.Mathlib.Omega.{arith}
-use lib.ListN.{length, getD}
-use lib.Ieee.{nan, binary64, sub, div}
-use Rattle.arith.specs.Sums.{sumOver}
-use Rattle.kernel.specs.Matern.{square}
+-- `kernel::squared_distance` meets its contract, by the lengths. Assumes nothing.
+use borrow.Author.Tests.{eq-eqb, ne-eqb}
+use Rattle.kernel.specs.Matern.{squaredOf}
 use borrow.Author.Needs.{needs}
 use Rattle.kernel.proofs.squared_distance.Statement.{statement}
 use Rattle.kernel.proofs.squared_distance.Tie as tie
 
-abbrev Inv-loop : tie.InvT-loop
-Inv-loop x1 x2 lengthscales r-sq₀ i₀ r-sq i =
-    (i ≤ length x1) × (r-sq ≡ sumOver i (λ j. square (div binary64 (sub binary64 (getD x1 j nan) (getD x2 j nan)) (getD lengthscales j nan))))
+returns : tie.Need-returns
+unfolding squaredOf
+returns c = rw (ne-eqb _ _ (c .if1 .taken))
 
-abbrev μ-loop : tie.MeasureT-loop
-μ-loop x1 x2 lengthscales r-sq₀ i₀ r-sq i = length x1 - i
+returns-2 : tie.Need-returns-2
+unfolding squaredOf
+returns-2 c = rw (eq-eqb _ _ (c .before .if1 .left), ne-eqb _ _ (c .if2 .taken))
 
-loop-holds : tie.Need-loop-holds Inv-loop μ-loop
-unfolding sumOver
-loop-holds c = (omega arith, refl)
+distance-requires : tie.Need-distance-requires
+distance-requires c κs = search needs
 
-mul-diff : tie.Need-mul-diff Inv-loop μ-loop
-mul-diff c = search needs
-
-shared-slice-read-diff : tie.Need-shared-slice-read-diff Inv-loop μ-loop
-shared-slice-read-diff c = search needs
-
-mul-diff-2 : tie.Need-mul-diff-2 Inv-loop μ-loop
-mul-diff-2 c = search needs
-
-shared-slice-read-diff-2 : tie.Need-shared-slice-read-diff-2 Inv-loop μ-loop
-shared-slice-read-diff-2 c = search needs
-
-mul-diff-3 : tie.Need-mul-diff-3 Inv-loop μ-loop
-mul-diff-3 c = search needs
-
-shared-slice-read-diff-3 : tie.Need-shared-slice-read-diff-3 Inv-loop μ-loop
-shared-slice-read-diff-3 c = search needs
-
-add-i : tie.Need-add-i Inv-loop μ-loop
-add-i c = search needs
-
-loop-less : tie.Need-loop-less Inv-loop μ-loop
-loop-less c = search needs
-
-loop-again : tie.Need-loop-again Inv-loop μ-loop
-unfolding sumOver
-loop-again c = (search needs, rw (c .before .before .before .before .loop .inv .1, add-one))
-
-returns : tie.Need-returns Inv-loop μ-loop
-returns c = let e : c .before .loop .i ≡ length (c .before .before .args .x1 .now) = omega arith in cc
+returns-3 : tie.Need-returns-3
+unfolding squaredOf
+returns-3 c = rw (c .distance .ensures, eq-eqb _ _ (c .before .before .if1 .left), eq-eqb _ _ (c .before .if2 .left))
 
 pub squared-distance-spec : {M : Type 1} → statement M
-squared-distance-spec =
-    tie.close
-    (tie.spec
-    Inv-loop
-    μ-loop
-    loop-holds
-    mul-diff
-    shared-slice-read-diff
-    mul-diff-2
-    shared-slice-read-diff-2
-    mul-diff-3
-    shared-slice-read-diff-3
-    add-i
-    loop-less
-    loop-again
-    returns)
+squared-distance-spec = tie.close (tie.spec returns returns-2 distance-requires returns-3)
