@@ -1,3 +1,4 @@
+mod Cases
 pub mod Domain
 pub mod Earliest
 pub mod Passes

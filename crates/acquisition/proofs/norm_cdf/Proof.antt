@@ -1,6 +1,8 @@
 -- `norm_cdf` meets its contract, by the tests. Assumes nothing.
-use mathlib.Core.Path.{sym}
-use lib.Ieee.{ofBits, ofInt, neg}
+use mathlib.Core.Path.{_≡_, sym}
+use mathlib.Core.Bool.{true}
+use lib.IntN.{pos, negsuc}
+use lib.Ieee.{binary64, lt, ofBits, ofInt, neg}
 use Rattle.acquisition.specs.Normal.{normCdfOf}
 use borrow.Author.Needs.{needs}
 use Rattle.acquisition.proofs.norm_cdf.Statement.{statement}
@@ -8,11 +10,13 @@ use Rattle.acquisition.proofs.norm_cdf.Tie as tie
 
 returns : tie.Need-returns
 unfolding normCdfOf ofBits ofInt neg
-returns c = rw (c .if1 .taken)
+returns c = let t : lt (c .before .args .x) (ofInt binary64 (negsuc 7)) ≡ true = c .if1 .taken in rw t
 
 returns-2 : tie.Need-returns-2
 unfolding normCdfOf ofBits ofInt neg
-returns-2 c = rw (c .before .if1 .left, c .if2 .taken)
+returns-2 c =
+    let t : lt (ofInt binary64 (pos 8)) (c .before .before .args .x) ≡ true = c .if2 .taken in
+    rw (c .before .if1 .left, t)
 
 abs-requires : tie.Need-abs-requires
 abs-requires c κs = search needs

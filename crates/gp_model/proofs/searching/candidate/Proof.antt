@@ -1,8 +1,10 @@
 -- `gp_model::searching::candidate` meets its contract, by whether it is kept. Assumes nothing.
 use Prim.Native.Nat.{ℕ, suc, _≤_}
 use mathlib.Core.Path.{_≡_, sym, ap, _∙_}
+use mathlib.Core.Bool.{true, false}
 use native.Mathlib.Omega.{arith}
 use lib.ListN.{length}
+use lib.Ieee.{lt}
 use Rattle.arith.specs.Lists.{padded}
 use Rattle.arith.proofs.Lists.{grown-length, grown-part, padded-length}
 use Rattle.rng_util.specs.Draws.{unitOf}
@@ -45,11 +47,17 @@ known c =
 
 returns : tie.Need-returns
 returns c =
-    rw (c .before .before .before .before .before .before .draw .ensures, sym (known (c .before .before)), c .if1 .taken)
+    let k = c .before .before in
+    let r = k .before .before .before .before in
+    let t : lt (r .before .before .before .before .args .s .«best_ei») (k .score .result) ≡ true = c .if1 .taken in
+    rw (r .draw .ensures, sym (known k), t)
 
 returns-2 : tie.Need-returns-2
 returns-2 c =
-    rw (c .before .before .before .before .before .before .before .draw .ensures, sym (known (c .before .before .before)), c .before .if1 .left)
+    let k = c .before .before .before in
+    let r = k .before .before .before .before in
+    let t : lt (r .before .before .before .before .args .s .«best_ei») (k .score .result) ≡ false = c .before .if1 .left in
+    rw (r .draw .ensures, sym (known k), t)
 
 pub candidate-spec : {M : Type 1} → statement M
 candidate-spec =

@@ -48,7 +48,8 @@ loop-again c =
     let v = c .before .before in
     let l = v .before .before .loop in
     let a = v .before .before .before .before .args in
-    (search needs, rw (c .at-least .ensures, c .before .sqrt .ensures, v .variance .ensures, l .inv .1, add-one) (grown-set 20 (λ xs j. lengthscaleOf (a .x .now) (a .n) (a .d) j) (l .j) (omega arith)))
+    let e : c .at-least .result ≡ lengthscaleOf (a .x .now) (a .n) (a .d) (l .j) = rw (c .at-least .ensures, c .before .sqrt .ensures, v .variance .ensures) in
+    (search needs, rw (e, l .inv .1, add-one) (grown-set 20 (λ xs j. lengthscaleOf (a .x .now) (a .n) (a .d) j) (l .j) (omega arith)))
 
 returns : tie.Need-returns Inv-loop μ-loop
 returns c = let e : c .before .loop .j ≡ c .before .before .before .args .d = omega arith in cc
