@@ -44,7 +44,7 @@ fn clamped(z: f64) -> u64
 }
 
 // A number near 2^52 times the root of the float whose pattern is g, from 1 to 4. What it is decides
-// only how long `nearest` takes.
+// only how long `nearest` takes. s is cut into h and l, whose products are exact, so that r is x - s * s.
 fn guess(g: u64) -> u64
     requires { ⌜ (0x3ff0000000000000 ≤ g) × (g < 0x4010000000000000) ⌝ }
     ensures { λ r. ⌜ (0 < r) × (r ≤ 2 ^ 53) ⌝ }
@@ -56,7 +56,11 @@ fn guess(g: u64) -> u64
     let y2 = y1 * (1.5 - k * y1 * y1);
     let y = y2 * (1.5 - k * y2 * y2);
     let s = x * y;
-    clamped((s + 0.5 * y * (x - s * s)) * 4503599627370496.0)
+    let c = s * 134217729.0;
+    let h = c - (c - s);
+    let l = s - h;
+    let r = ((x - h * h) - 2.0 * h * l) - l * l;
+    clamped((s + 0.5 * y * r) * 4503599627370496.0)
 }
 
 // The least number from q up that reaches.
