@@ -1,3 +1,4 @@
 pub mod Cholesky
 pub mod Solve
+pub mod SolveParts
 pub mod Triangle

@@ -79,7 +79,13 @@ fn decays(r_sq: &[f64; 100], sqrt5_r: &[f64; 100], n: usize) -> [f64; 100]
 }
 
 // The kernel of a point and each of the n rows, in three passes: the rows' roots and exps do not wait for each other.
-pub(crate) fn kernel_vector(x: &[f64], n: usize, d: usize, lengthscales: &[f64], p: &[f64]) -> [f64; 100]
+pub(crate) fn kernel_vector(
+    x: &[f64],
+    n: usize,
+    d: usize,
+    lengthscales: &[f64],
+    p: &[f64],
+) -> [f64; 100]
     requires { ⌜ (n ≤ 100) × (n * d ≤ length (now x)) × (length (now lengthscales) ≡ d) × (length (now p) ≡ d) ⌝ }
     ensures { λ r. ⌜ r ≡ padded 100 (kernelVectorOf (now (x .entry)) n d (now (lengthscales .entry)) (now (p .entry))) ⌝ }
 {

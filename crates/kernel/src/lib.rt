@@ -45,9 +45,7 @@ pub fn decay(r_sq: f64, sqrt5_r: f64, signal_var: f64) -> Outcome
     ensures { λ r. ⌜ r ≡ decayOf «r_sq» «sqrt5_r» «signal_var» ⌝ }
 {
     match arith::exp(-sqrt5_r) {
-        Outcome::Value(e) => {
-            Outcome::Value(signal_var * (1.0 + sqrt5_r + 5.0 / 3.0 * r_sq) * e)
-        }
+        Outcome::Value(e) => { Outcome::Value(signal_var * (1.0 + sqrt5_r + 5.0 / 3.0 * r_sq) * e) }
         Outcome::Refused(n) => Outcome::Refused(n),
     }
 }

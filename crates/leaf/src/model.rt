@@ -61,10 +61,7 @@ pub(crate) fn matern52(args: &[u64], results: &mut Results) -> Reply
     let c = b + d;
     let s = xs[c];
     let t = &xs[..];
-    reply::outcome(
-        kernel::matern52(&t[1..a], &t[a..b], &t[b..c], s),
-        results,
-    )
+    reply::outcome(kernel::matern52(&t[1..a], &t[a..b], &t[b..c], s), results)
 }
 
 // The parts of a line of n, d, noise, n rows of d columns and n values, with more words after them or none.
