@@ -26,17 +26,16 @@ fn reaches(q: u64, nh: u64, nl: u64) -> bool
     nl <= lo % 0x40_0000_0000_0000
 }
 
-// z without its fraction, or 2^52 where that is 0 or above 2^53.
+// 2^52 times z by its pattern where z is from 1 to 2, else some number of that size.
 fn clamped(z: f64) -> u64
     ensures { λ r. ⌜ (0 < r) × (r ≤ 2 ^ 53) ⌝ }
 {
-    if z > 1.0 {
-        if z < 18446744073709551616.0 {
-            let q = std::num::truncating_f64_to_u64(z);
+    if z > 0.0 {
+        let b = f64::to_bits(z);
+        if b > 0x3fe0_0000_0000_0000 {
+            let q = b - 0x3fe0_0000_0000_0000;
             if q <= 0x20_0000_0000_0000 {
-                if 0 < q {
-                    return q;
-                }
+                return q;
             }
         }
     }
@@ -44,7 +43,7 @@ fn clamped(z: f64) -> u64
 }
 
 // A number near 2^52 times the root of the float whose pattern is g, from 1 to 4. What it is decides
-// only how long `nearest` takes. s is cut into h and l, whose products are exact, so that r is x - s * s.
+// only how long `nearest` takes.
 fn guess(g: u64) -> u64
     requires { ⌜ (0x3ff0000000000000 ≤ g) × (g < 0x4010000000000000) ⌝ }
     ensures { λ r. ⌜ (0 < r) × (r ≤ 2 ^ 53) ⌝ }
@@ -56,11 +55,7 @@ fn guess(g: u64) -> u64
     let y2 = y1 * (1.5 - k * y1 * y1);
     let y = y2 * (1.5 - k * y2 * y2);
     let s = x * y;
-    let c = s * 134217729.0;
-    let h = c - (c - s);
-    let l = s - h;
-    let r = ((x - h * h) - 2.0 * h * l) - l * l;
-    clamped((s + 0.5 * y * r) * 4503599627370496.0)
+    clamped(s + 0.5 * y * (x - s * s))
 }
 
 // The least number from q up that reaches.

