@@ -12,7 +12,7 @@ pub use scaling::from_normalized;
 pub use scaling::to_normalized;
 pub use searching::optimize_acquisition;
 
-// A fitted model: n rows of d columns, and the last five fields of the Rust's. What lies past the counts is zero.
+// A fitted model: its n rows of d columns, lengthscales, factor, weights and best value. What lies past the counts is zero.
 pub struct Model {
     pub x_train: [f64; 2000],
     pub lengthscales: [f64; 20],

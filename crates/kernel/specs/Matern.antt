@@ -1,4 +1,4 @@
--- The Matérn kernel for ν = 5/2 with a lengthscale for each column: Rasmussen and Williams, 4.17 and 5.1, s (1 + √5 r + 5 r²/3) exp(-√5 r). "`matern52` associates as written." Definitions only.
+-- The Matérn kernel for ν = 5/2, Rasmussen and Williams, 4.17, s (1 + √5 r + 5 r²/3) exp(-√5 r), with a lengthscale for each column (their section 5.1). "`matern52` associates as written." Definitions only.
 use mathlib.Core.Bool.{Bool, _&&_}
 use mathlib.Core.List.{List}
 use lib.Dec.{eqb}

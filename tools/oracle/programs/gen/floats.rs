@@ -22,6 +22,18 @@ const EXP_LIMITS: &[f64] = &[
 /// The exponents k around which exp rounds x * log2(e).
 const EXP_SCALES: std::ops::RangeInclusive<i64> = -1022..=1023;
 
+/// Zeros, the least numbers, the largest, infinities and a NaN.
+pub const ODD_FLOATS: &[f64] = &[
+    0.0,
+    -0.0,
+    f64::from_bits(1),
+    -f64::MIN_POSITIVE,
+    f64::MAX,
+    f64::INFINITY,
+    f64::NEG_INFINITY,
+    f64::NAN,
+];
+
 pub fn exp_edges() -> Vec<u64> {
     let limits = EXP_LIMITS.iter().flat_map(|&x| neighbours(x.to_bits()));
     let mut scales: Vec<i64> = EXP_SCALES.collect();

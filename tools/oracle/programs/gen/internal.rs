@@ -1,7 +1,7 @@
 //! Inputs for `from_internal`: internal values within a distribution's bounds and about them.
 
 use crate::distributions::{Call, float, int, malformed, with_each_well_formed};
-use crate::floats::{around, nudged, uniform};
+use crate::floats::{ODD_FLOATS, around, nudged, uniform};
 use crate::lists::{alternated, distinct};
 use crate::random_distributions;
 use arithmetic::float::ln;
@@ -9,17 +9,6 @@ use optimizer::distribution::Distribution;
 use optimizer::leaves;
 use records::DistributionWords;
 use splitmix::SplitMix64;
-
-const ODD_FLOATS: &[f64] = &[
-    0.0,
-    -0.0,
-    f64::from_bits(1),
-    -f64::MIN_POSITIVE,
-    f64::MAX,
-    f64::INFINITY,
-    f64::NEG_INFINITY,
-    f64::NAN,
-];
 
 pub fn edges() -> Vec<Vec<u64>> {
     let limits = with_each_well_formed(|d| words_around(&limits(d)));

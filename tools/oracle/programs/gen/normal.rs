@@ -1,7 +1,7 @@
 //! Inputs for `norm_pdf`, `norm_cdf` and `expected_improvement`.
 
 use crate::floats::{
-    around, both_signs, common_edges, exp_split, neighbours, nudged, powers_of_two,
+    ODD_FLOATS, around, both_signs, common_edges, exp_split, neighbours, nudged, powers_of_two,
     signed_with_exponent, uniform, with_exponent,
 };
 use crate::lists::shuffled;
@@ -13,17 +13,6 @@ const LIMITS: &[f64] =
 
 /// The least deviation that is divided by.
 const LEAST_STD: f64 = 1e-12;
-
-const ODD_FLOATS: &[f64] = &[
-    0.0,
-    -0.0,
-    f64::from_bits(1),
-    -f64::MIN_POSITIVE,
-    f64::MAX,
-    f64::INFINITY,
-    f64::NEG_INFINITY,
-    f64::NAN,
-];
 
 pub fn edges() -> Vec<u64> {
     let limits = LIMITS.iter().copied().chain([zero_pdf()]).flat_map(|x| neighbours(x.to_bits()));
