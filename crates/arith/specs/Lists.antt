@@ -14,7 +14,7 @@ grown f (suc n) = grown f n ++ (f (grown f n) n ∷ [])
 abbrev pub listOf : (ℕ → Float) → ℕ → List Float
 listOf f n = grown (λ xs i. f i) n
 
--- an array of that many places that holds the list: "past the counts is zero"
+-- an array of that many places that holds the list, with +0 past it
 abbrev pub padded : ℕ → List Float → List Float
 padded places xs = xs ++ replicate (places - length xs) (ofBits binary64 0)
 

@@ -1,7 +1,7 @@
 -- The factor by columns is the factor by rows: an entry does not change once its column is made. Assumes nothing.
 use mathlib.Core.Path.{_≡_, refl, sym, ap, _∙_}
 use mathlib.Core.Logic.{inl, inr}
-use mathlib.Core.Bool.{Bool, false, and-false}
+use mathlib.Core.Bool.{false}
 use mathlib.Core.List.{List}
 use Prim.Native.Nat.{ℕ, zero, suc, _≤_, _<_}
 use native.Mathlib.Nat.{eq-or-lt-of-le, le-of-suc-le-suc}
@@ -10,7 +10,7 @@ use borrow.Author.Tests.{eq-eqb, ne-eqb}
 use lib.Dec.{eqb}
 use lib.ListN.{getD, set}
 use lib.Ieee.{Float, nan, binary64, div}
-use Rattle.arith.specs.Lists.{every, padded}
+use Rattle.arith.specs.Lists.{padded}
 use Rattle.arith.specs.Sqrt.{sqrtOf}
 use Rattle.factor.specs.Triangle.{at, entry, rowsOf, lessOf}
 use Rattle.factor.specs.Cholesky.{restOf, elementOf, columnsOf, factorOf}

@@ -1,6 +1,6 @@
 -- The search keeps the earliest maximum, over the generator's words. The state after n candidates is read off the words: the word moved n times the columns, and the best of the first n scores with its point. Assumes nothing.
 use mathlib.Core.Path.{_≡_, refl, sym, ap, _∙_, subst}
-use mathlib.Core.Logic.{_⊎_, inl, inr}
+use mathlib.Core.Logic.{inl, inr}
 use mathlib.Core.Bool.{Bool, true, false, cond}
 use mathlib.Core.List.{List}
 use Prim.Native.Nat.{ℕ, zero, suc, _+_, _*_, _≤_, _<_}
@@ -24,7 +24,7 @@ use Rattle.gp_model.specs.declared.Model.{Model}
 use Rattle.gp_model.specs.declared.Search.{Search}
 use Rattle.gp_model.specs.Earliest.{drawnOf, Earliest}
 use Rattle.gp_model.specs.Predict.{posteriorAt}
-use Rattle.gp_model.specs.Search.{pointOf, scoreOf, startOf, keptOf, candidateOf, advanceOf, foundOf, searchDomain, optimizeAcquisitionOf}
+use Rattle.gp_model.specs.Search.{pointOf, scoreOf, startOf, candidateOf, advanceOf, foundOf, searchDomain, optimizeAcquisitionOf}
 use Rattle.gp_model.proofs.Domain.{search-columns}
 use Rattle.gp_model.proofs.Table.{row-end}
 

@@ -1,4 +1,4 @@
--- The earliest maximum, over the generator's words alone: "the best point is at least every point drawn, and the earliest such". A statement, proved in proofs/Earliest.
+-- The earliest maximum, over the generator's words alone: demand 3, "the earliest drawn for it whose expected improvement under that model is at least that of every other one drawn for it. With no candidates it is .. all 0.5." A statement, proved in proofs/Earliest.
 use mathlib.Core.Path.{_≡_}
 use mathlib.Core.List.{List}
 use Prim.Native.Nat.{ℕ, _+_, _*_, _<_}

@@ -1,16 +1,11 @@
 -- The kernel's exp is accepted: a root is a NaN or not below 0, so the argument is a NaN or not above 0. Assumes nothing.
-use mathlib.Core.Path.{_≡_, refl, sym, ap, _∙_, subst}
+use mathlib.Core.Path.{_≡_, refl, ap, _∙_}
 use mathlib.Core.Logic.{_⊎_, inl, inr}
-use mathlib.Core.Bool.{true, false, _&&_}
-use mathlib.Core.List.{List}
-use Prim.Native.Nat.{ℕ, zero, suc}
-use lib.Dec.{eqb}
-use lib.ListN.{length}
+use mathlib.Core.Bool.{true, false}
+use Prim.Native.Nat.{zero, suc}
 use lib.Ieee.{Float, nan, inf, fin, binary64, mul, neg, le, ofBits}
-use lib.Ieee.Scale.{finite}
 use borrow.Author.Tests.{eq-eqb}
 use Rattle.arith.specs.Bounds.{Sign}
-use Rattle.arith.specs.Exp.{expOf}
 use Rattle.arith.specs.Sqrt.{sqrtOf}
 use Rattle.arith.proofs.Accepted.{Accepted, accepted-value, exp-accepted, made-accepted}
 use Rattle.arith.proofs.Order as order

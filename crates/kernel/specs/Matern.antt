@@ -24,7 +24,7 @@ fits x1 x2 l = eqb (length x1) (length x2) && eqb (length x1) (length l)
 abbrev pub squaredDistanceOf : List Float → List Float → List Float → Float
 squaredDistanceOf x1 x2 l = sumOver (length x1) (λ i. square (div binary64 (sub binary64 (getD x1 i nan) (getD x2 i nan)) (getD l i nan)))
 
--- "the Rust's constant 2.236213562373095, which is not the root of 5"
+-- SQRT_5: "the Rust's constant 2.236213562373095, which is not the root of 5"
 abbrev pub sqrt5 : Float
 sqrt5 = ofBits binary64 0x4001e3c3efaa1ce0
 

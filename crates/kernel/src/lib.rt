@@ -33,7 +33,7 @@ pub fn squared_distance(x1: &[f64], x2: &[f64], lengthscales: &[f64]) -> Outcome
     Outcome::Value(distance(x1, x2, lengthscales))
 }
 
-// The constant times the root of a squared distance.
+// The Rust's SQRT_5 times the root of a squared distance.
 pub fn scaled_root(r_sq: f64) -> f64
     ensures { λ r. ⌜ r ≡ scaledRootOf «r_sq» ⌝ }
 {

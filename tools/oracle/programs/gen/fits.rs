@@ -155,30 +155,22 @@ pub fn odd_counts() -> Vec<Fit> {
 
 /// One coordinate at and beyond the limit, in the first, a middle and the last place.
 fn odd_coordinates() -> Vec<Fit> {
-    let numbers = odd_floats(MAX_COORDINATE);
-    let fit = Fit::fixed(3, 2);
-    let replaced = |(place, number): (usize, f64)| {
-        let mut fit = fit.clone();
-        fit.x[place] = number;
-        fit
-    };
-    with_places(&numbers, [0, 3, 5]).into_iter().map(replaced).collect()
+    replaced(MAX_COORDINATE, [0, 3, 5], |fit, place, number| fit.x[place] = number)
 }
 
 /// One value at and beyond the limit, in the first, a middle and the last place.
 fn odd_values() -> Vec<Fit> {
-    let numbers = odd_floats(MAX_VALUE);
-    let fit = Fit::fixed(3, 2);
-    let replaced = |(place, number): (usize, f64)| {
-        let mut fit = fit.clone();
-        fit.y[place] = number;
-        fit
-    };
-    with_places(&numbers, [0, 1, 2]).into_iter().map(replaced).collect()
+    replaced(MAX_VALUE, [0, 1, 2], |fit, place, number| fit.y[place] = number)
 }
 
-fn with_places(numbers: &[f64], places: [usize; 3]) -> Vec<(usize, f64)> {
-    numbers.iter().flat_map(|&number| places.map(|place| (place, number))).collect()
+/// A good fit with one number replaced by each odd one about the limit, at each of the places.
+fn replaced(limit: f64, places: [usize; 3], put: fn(&mut Fit, usize, f64)) -> Vec<Fit> {
+    let with = |place, number| {
+        let mut fit = Fit::fixed(3, 2);
+        put(&mut fit, place, number);
+        fit
+    };
+    odd_floats(limit).iter().flat_map(|&number| places.map(|place| with(place, number))).collect()
 }
 
 /// Both sides of a limit, numbers that are no numbers, and some that are taken.

@@ -1,7 +1,6 @@
 -- `gp_model::predicting::counts_fit` meets its contract, test by test. Assumes nothing.
 use borrow.Author.Tests.{le-leb, lt-leb}
 use Rattle.gp_model.specs.Predict.{countsFit}
-use borrow.Author.Needs.{needs}
 use Rattle.gp_model.proofs.predicting.counts_fit.Statement.{statement}
 use Rattle.gp_model.proofs.predicting.counts_fit.Tie as tie
 

@@ -1,5 +1,5 @@
 -- `gp_model::searching::score` meets its contract. Assumes nothing.
-use mathlib.Core.Path.{_≡_, ap, _∙_}
+use mathlib.Core.Path.{ap, _∙_}
 use Rattle.arith.specs.Outcome.{valueOf}
 use Rattle.gp_model.specs.Search.{scoreOf}
 use borrow.Author.Needs.{needs}
