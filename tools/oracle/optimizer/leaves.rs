@@ -5,8 +5,8 @@ use crate::param::ParamValue;
 use crate::sampler::common;
 
 pub use crate::sampler::gp::lent::{
-    Model, expected_improvement, fit_gp, from_normalized, matern52, norm_cdf, norm_pdf,
-    to_normalized,
+    Model, build_training_data, establish_param_mapping, expected_improvement, fit_gp,
+    from_normalized, matern52, norm_cdf, norm_pdf, to_normalized,
 };
 
 pub fn internal_bounds(distribution: &Distribution) -> Option<(f64, f64)> {

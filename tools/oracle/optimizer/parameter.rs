@@ -5,3 +5,9 @@ impl From<u64> for ParamId {
         Self(id)
     }
 }
+
+impl From<ParamId> for u64 {
+    fn from(id: ParamId) -> Self {
+        id.0
+    }
+}

@@ -2,12 +2,16 @@
 
 use arithmetic::generator::{self, Draw};
 use arithmetic::{OUT_OF_DOMAIN, Refusal, float};
+use history::History;
 use leaf_lines::{Answer, Leaf, answer_input, float_to_word, word_to_float};
 use optimizer::distribution::Distribution;
 use optimizer::leaves::{self, Model};
 use optimizer::param::ParamValue;
 use records::{CHOICE, DistributionWords, FLOAT, INT};
 use training::{Training, floats, is_point, take};
+
+/// The most dimensions of a sampler.
+const MAX_DIMENSIONS: u64 = 20;
 
 /// The leaves by name. A new leaf is one more line here and a function of its words.
 const LEAVES: &[(&str, Leaf)] = &[
@@ -35,6 +39,9 @@ const LEAVES: &[(&str, Leaf)] = &[
     ("fit_gp", fit_gp),
     ("predict", predict),
     ("optimize_acquisition", optimize_acquisition),
+    ("history", history),
+    ("mapping", mapping),
+    ("training", training),
 ];
 
 fn next(words: &[u64]) -> Option<Answer> {
@@ -201,6 +208,56 @@ fn search(model: &Model, candidates: u64, state: u64) -> Answer {
     let columns = model.lengthscales().len();
     let point = model.optimize_acquisition(columns, candidates as usize, &mut rng);
     Ok(point.into_iter().map(float_to_word).chain([rng.state()]).collect())
+}
+
+/// The slots and then the words of a history: the number of its rows.
+fn history(words: &[u64]) -> Option<Answer> {
+    let (&slots, words) = words.split_first()?;
+    Some(History::read(slots, words).map(|history| vec![history.rows() as u64]))
+}
+
+/// Two words for each dimension: 1 and the id, or 0 and 0.
+fn mapping(words: &[u64]) -> Option<Answer> {
+    let input = dimensions_and_history(words)?;
+    Some(input.map(|(dimensions, history)| {
+        let ids = match history.first_recent() {
+            Some(trial) => leaves::establish_param_mapping(&trial, &dimensions),
+            None => vec![None; dimensions.len()],
+        };
+        ids.into_iter().flat_map(|id| id.map_or([0, 0], |id| [1, id.into()])).collect()
+    }))
+}
+
+/// The numbers of rows and of columns, the coordinates row after row, and the values.
+fn training(words: &[u64]) -> Option<Answer> {
+    let input = dimensions_and_history(words)?;
+    Some(input.map(|(dimensions, history)| {
+        let (x, y) = leaves::build_training_data(&history.trials(), &dimensions);
+        let columns = dimensions.iter().filter(|d| is_continuous(d)).count();
+        let numbers = x.concat().into_iter().chain(y.iter().copied());
+        [y.len() as u64, columns as u64].into_iter().chain(numbers.map(float_to_word)).collect()
+    }))
+}
+
+fn is_continuous(d: &Distribution) -> bool {
+    !matches!(d, Distribution::Categorical(_))
+}
+
+/// The slots, the number of dimensions, their distributions and the words of a history, or the
+/// refusal; none where there are fewer words than the dimensions have. 11 comes before 3.
+fn dimensions_and_history(words: &[u64]) -> Option<Result<(Vec<Distribution>, History), Refusal>> {
+    let &[slots, count, ref rest @ ..] = words else { return None };
+    let (dimensions, history) = take(rest, count.checked_mul(6)?)?;
+    let dimensions = dimension_list(count, dimensions);
+    Some(dimensions.and_then(|dimensions| Ok((dimensions, History::read(slots, history)?))))
+}
+
+fn dimension_list(count: u64, words: &[u64]) -> Result<Vec<Distribution>, Refusal> {
+    if count > MAX_DIMENSIONS {
+        return Err(OUT_OF_DOMAIN);
+    }
+    let (dimensions, _) = words.as_chunks();
+    dimensions.iter().map(well_formed).collect()
 }
 
 fn well_formed(words: &DistributionWords) -> Result<Distribution, Refusal> {

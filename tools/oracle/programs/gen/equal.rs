@@ -56,7 +56,7 @@ fn refused() -> Vec<Pair> {
 }
 
 /// A copy with the other sign at each end that is a zero.
-fn with_other_zeros(mut words: DistributionWords) -> DistributionWords {
+pub fn with_other_zeros(mut words: DistributionWords) -> DistributionWords {
     if words[0] == FLOAT {
         words[1..=2].iter_mut().filter(|end| **end & !SIGN == 0).for_each(|end| *end ^= SIGN);
     }
@@ -64,7 +64,7 @@ fn with_other_zeros(mut words: DistributionWords) -> DistributionWords {
 }
 
 /// Well-formed ones that differ in one word by a little.
-fn changed_copies(words: DistributionWords) -> impl Iterator<Item = DistributionWords> {
+pub fn changed_copies(words: DistributionWords) -> impl Iterator<Item = DistributionWords> {
     let copies = (0..words.len()).flat_map(move |place| {
         CHANGES.iter().map(move |change| {
             let mut copy = words;
@@ -76,6 +76,6 @@ fn changed_copies(words: DistributionWords) -> impl Iterator<Item = Distribution
 }
 
 /// One of several damaged copies that is well-formed, if there is one.
-fn near_copy(rng: &mut SplitMix64, words: DistributionWords) -> DistributionWords {
+pub fn near_copy(rng: &mut SplitMix64, words: DistributionWords) -> DistributionWords {
     (0..8).map(|_| damaged(rng, words)).find(is_well_formed).unwrap_or(words)
 }

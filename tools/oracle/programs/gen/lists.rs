@@ -1,4 +1,5 @@
 //! Orders of lists whose beginnings are used alone: `sample` takes the first few hundred edges.
+//! And random orders.
 
 use splitmix::SplitMix64;
 use std::collections::HashSet;
@@ -21,6 +22,12 @@ pub fn distinct<T: Clone + Eq + Hash>(items: Vec<T>) -> Vec<T> {
 pub fn shuffled<T>(items: impl IntoIterator<Item = T>) -> Vec<T> {
     let key = |number| SplitMix64::for_line(0, number).next_word();
     let mut keyed: Vec<(u64, T)> = (0..).map(key).zip(items).collect();
+    keyed.sort_by_key(|&(key, _)| key);
+    keyed.into_iter().map(|(_, item)| item).collect()
+}
+
+pub fn reordered<T>(rng: &mut SplitMix64, items: impl IntoIterator<Item = T>) -> Vec<T> {
+    let mut keyed: Vec<(u64, T)> = items.into_iter().map(|item| (rng.next_word(), item)).collect();
     keyed.sort_by_key(|&(key, _)| key);
     keyed.into_iter().map(|(_, item)| item).collect()
 }

@@ -6,17 +6,22 @@
 //! and on its own number alone. `--from N` leaves out the first N lines, `--skip-edges` all edges.
 //! Of the random lines about PERCENT in a hundred cannot be read.
 
+mod cases;
+mod damages;
 mod distribution_limits;
 mod distributions;
 mod draws;
 mod equal;
 mod fits;
 mod floats;
+mod history_edges;
 mod internal;
 mod kernel;
 mod lists;
+mod mapping_edges;
 mod normal;
 mod predictions;
+mod random_cases;
 mod random_distributions;
 mod random_fits;
 mod random_values;
@@ -76,6 +81,9 @@ const LEAVES: &[(&str, Calls)] = &[
     ("fit_gp", Calls::Words(fits::edges, fits::random)),
     ("predict", Calls::Words(predictions::edges, predictions::random)),
     ("optimize_acquisition", Calls::Words(searches::edges, searches::random)),
+    ("history", Calls::Words(history_edges::edges, random_cases::history)),
+    ("mapping", Calls::Words(mapping_edges::edges, random_cases::model)),
+    ("training", Calls::Words(mapping_edges::edges, random_cases::model)),
 ];
 
 /// The leaf that is timed.

@@ -23,6 +23,10 @@ pub fn distribution(rng: &mut SplitMix64) -> DistributionWords {
     }
 }
 
+pub fn well_formed(rng: &mut SplitMix64) -> DistributionWords {
+    candidate(rng, true)
+}
+
 /// A well-formed one, or a malformed one that is not far from it.
 fn candidate(rng: &mut SplitMix64, well_formed: bool) -> DistributionWords {
     let of_kind = match rng.below(8) {

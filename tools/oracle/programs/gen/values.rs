@@ -74,7 +74,7 @@ fn of_kind<const N: usize>(kind: u64, calls: &[Call<N>]) -> Vec<Call<N>> {
 }
 
 /// Values on both sides of the Taken rule's limits and of the distribution's ends.
-fn edge_values(words: &DistributionWords) -> Vec<u64> {
+pub fn edge_values(words: &DistributionWords) -> Vec<u64> {
     match records::distribution(words) {
         Some(Distribution::Float(d)) => edge_floats(d.low, d.high),
         Some(Distribution::Int(d)) => edge_ints(d.low, d.high),
@@ -108,6 +108,21 @@ fn random_value(rng: &mut SplitMix64, words: &DistributionWords) -> u64 {
         Some(Distribution::Categorical(d)) => random_index(rng, d.n_choices as u64),
         None => rng.sized(64),
     }
+}
+
+/// A value that a well-formed distribution's Taken rule allows.
+pub fn taken_value(rng: &mut SplitMix64, words: &DistributionWords) -> u64 {
+    loop {
+        let word = random_value(rng, words);
+        if is_taken(words, word) {
+            return word;
+        }
+    }
+}
+
+pub fn is_taken(words: &DistributionWords, word: u64) -> bool {
+    let pair = records::value(words[0], word).zip(records::distribution(words));
+    pair.is_some_and(|(value, d)| records::may_be_taken(&value, &d))
 }
 
 fn random_float(rng: &mut SplitMix64, low: f64, high: f64) -> f64 {

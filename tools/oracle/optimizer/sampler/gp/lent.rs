@@ -1,7 +1,10 @@
 //! Lends what `gp.rs` keeps to itself. `prepare` makes this a child module of it, which sees its
 //! private items.
 
-use super::GpModel;
+use super::{DimensionInfo, GpModel, GpState};
+use crate::distribution::Distribution;
+use crate::parameter::ParamId;
+use crate::sampler::CompletedTrial;
 
 pub fn norm_pdf(x: f64) -> f64 {
     super::norm_pdf(x)
@@ -65,4 +68,29 @@ impl Model {
     ) -> Vec<f64> {
         super::optimize_acquisition(&self.0, n_dims, n_candidates, rng)
     }
+}
+
+pub fn establish_param_mapping(
+    trial: &CompletedTrial,
+    distributions: &[Distribution],
+) -> Vec<Option<ParamId>> {
+    super::establish_param_mapping(trial, &discovered(distributions))
+}
+
+/// The rows of coordinates and their values.
+pub fn build_training_data(
+    history: &[CompletedTrial],
+    distributions: &[Distribution],
+) -> (Vec<Vec<f64>>, Vec<f64>) {
+    super::build_training_data(history, &discovered(distributions))
+}
+
+/// The dimensions as a discovery that asks for these distributions makes them, bounds included.
+/// What it draws is not used.
+fn discovered(distributions: &[Distribution]) -> Vec<DimensionInfo> {
+    let mut state = GpState::new(None, None, None, Some(1));
+    for distribution in distributions {
+        super::sample_discovery(&mut state, distribution, 0);
+    }
+    state.dimensions
 }
