@@ -1,7 +1,7 @@
 // Document 01's arithmetic on f64, each function total and equal to its definition in specs/ for every argument.
 // The laws on these definitions that other crates cite stand in proofs/.
 ghost use mathlib.Core.Path.{_≡_};
-ghost use Rattle.arith.specs.Outcome.{numberOf, wordOf};
+ghost use Rattle.arith.specs.Outcome.{numberOf, wordOf, valueOf};
 
 pub mod choice;
 pub mod exponential;
@@ -54,5 +54,15 @@ pub fn word(o: Outcome) -> u64
     match o {
         Outcome::Value(x) => words::word_of_float(x),
         Outcome::Refused(_) => 0,
+    }
+}
+
+// The value of an answer, a NaN where there is none.
+pub fn value(o: Outcome) -> f64
+    ensures { λ r. ⌜ r ≡ valueOf o ⌝ }
+{
+    match o {
+        Outcome::Value(v) => v,
+        Outcome::Refused(_) => 0.0 / 0.0,
     }
 }

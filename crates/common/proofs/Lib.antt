@@ -4,5 +4,6 @@ pub mod Draws
 pub mod EndLaws
 pub mod Facts
 pub mod FloatSteps
+pub mod Moves
 pub mod Saturate
 pub mod Steps

@@ -2,7 +2,7 @@
 use Prim.Native.Nat.{ℕ, zero, suc}
 use mathlib.Core.Bool.{Bool, true, cond, not, _&&_}
 use mathlib.Core.List.{List, []}
-use lib.Dec.{eqb}
+use lib.Dec.{eqb, leb}
 use lib.ListN.{replicate}
 use lib.Ieee.{Float, inf, binary64, lt, ofBits}
 use Rattle.acquisition.specs.Improvement.{expectedImprovementOf}
@@ -22,6 +22,10 @@ pointOf d w = listOf (λ j. unitOf (movedOf (suc j) w)) d
 
 abbrev pub drawOf : ℕ → ℕ → Candidate
 drawOf d w = record { x = padded 20 (pointOf d w); next = movedOf d w }
+
+-- the same as an answer: over 20 coordinates, or a zero word, are 11
+unfoldable pub drawPointOf : ℕ → ℕ → Searched
+drawPointOf d w = cond (leb d 20 && not (eqb w 0)) (record { number = 0; point = padded 20 (pointOf d w); next = movedOf d w }) (record { number = 11; point = padded 20 []; next = w })
 
 -- a model of these parts
 abbrev pub partsOf : List Float → List Float → List Float → List Float → Float → ℕ → ℕ → Model

@@ -4,10 +4,8 @@ ghost use Prim.Native.Nat.{_+_, _*_, _≤_, _<_};
 ghost use lib.ListN.{length};
 ghost use Rattle.arith.specs.Lists.{padded};
 ghost use Rattle.factor.specs.Triangle.{rowsOf};
-ghost use Rattle.arith.specs.Outcome.{valueOf};
 ghost use Rattle.gp_model.specs.KernelParts.{distancesOf, scaledRootsOf, decaysOf};
 ghost use Rattle.gp_model.specs.Kernels.{rowOf, similarityOf, covarianceOf, kernelMatrixOf, kernelVectorOf};
-use arith::Outcome;
 
 // Row i of a table of d columns.
 fn row(x: &[f64], d: usize, i: usize) -> &[f64]
@@ -19,21 +17,11 @@ fn row(x: &[f64], d: usize, i: usize) -> &[f64]
     &x[start..end]
 }
 
-// The value of an answer, a NaN where there is none.
-fn value(o: Outcome) -> f64
-    ensures { λ r. ⌜ r ≡ valueOf o ⌝ }
-{
-    match o {
-        Outcome::Value(v) => v,
-        Outcome::Refused(_) => 0.0 / 0.0,
-    }
-}
-
 // The kernel of two points.
 fn similarity(x1: &[f64], x2: &[f64], lengthscales: &[f64]) -> f64
     ensures { λ r. ⌜ r ≡ similarityOf (now (x1 .entry)) (now (x2 .entry)) (now (lengthscales .entry)) ⌝ }
 {
-    value(kernel::matern52(x1, x2, lengthscales, 1.0))
+    arith::value(kernel::matern52(x1, x2, lengthscales, 1.0))
 }
 
 // The squared distances of a point and each of the n rows of a table of d columns.
@@ -44,7 +32,7 @@ fn distances(x: &[f64], n: usize, d: usize, lengthscales: &[f64], p: &[f64]) -> 
     let mut out = [0.0; 100];
     let mut i = 0;
     while i < n {
-        out[i] = value(kernel::squared_distance(p, row(x, d, i), lengthscales));
+        out[i] = arith::value(kernel::squared_distance(p, row(x, d, i), lengthscales));
         i += 1;
     }
     out
@@ -72,7 +60,7 @@ fn decays(r_sq: &[f64; 100], sqrt5_r: &[f64; 100], n: usize) -> [f64; 100]
     let mut out = [0.0; 100];
     let mut i = 0;
     while i < n {
-        out[i] = value(kernel::decay(r_sq[i], sqrt5_r[i], 1.0));
+        out[i] = arith::value(kernel::decay(r_sq[i], sqrt5_r[i], 1.0));
         i += 1;
     }
     out

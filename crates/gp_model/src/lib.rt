@@ -10,6 +10,7 @@ pub use fitting::fit_gp;
 pub use predicting::predict;
 pub use scaling::from_normalized;
 pub use scaling::to_normalized;
+pub use searching::draw_point;
 pub use searching::optimize_acquisition;
 
 // A fitted model: its n rows of d columns, lengthscales, factor, weights and best value. What lies past the counts is zero.

@@ -7,7 +7,7 @@ ghost use Prim.Native.Nat.{_*_, _≤_, _<_};
 ghost use Rattle.arith.specs.Lists.{padded};
 ghost use Rattle.rng_util.proofs.Nonzero.{Nonzero};
 ghost use Rattle.gp_model.specs.Earliest.{Earliest};
-ghost use Rattle.gp_model.specs.Search.{drawOf, partsOf, scoreOf, candidateOf, advanceOf, searchDomain, optimizeAcquisitionOf};
+ghost use Rattle.gp_model.specs.Search.{drawOf, drawPointOf, partsOf, scoreOf, candidateOf, advanceOf, searchDomain, optimizeAcquisitionOf};
 use crate::Candidate;
 use crate::Model;
 use crate::Search;
@@ -29,6 +29,28 @@ fn draw(word: u64, d: usize) -> Candidate
         j += 1;
     }
     Candidate { x, next }
+}
+
+// A point of d unit floats, at most 20; over 20 and a zero word are 11.
+pub fn draw_point(d: usize, word: u64) -> Searched
+    ensures { λ r. ⌜ r ≡ drawPointOf d word ⌝ }
+{
+    if d <= 20 {
+        if word != 0 {
+            let c = draw(word, d);
+            let point = c.x;
+            return Searched {
+                number: 0,
+                point,
+                next: c.next,
+            };
+        }
+    }
+    Searched {
+        number: 11,
+        point: [0.0; 20],
+        next: word,
+    }
 }
 
 // The expected improvement at a point.

@@ -1,8 +1,8 @@
--- `gp_model::kernels::value` meets its contract. Assumes nothing.
+-- `arith::value` meets its contract. Assumes nothing.
 use lib.Ieee.{ofBits, div}
 use borrow.Author.Needs.{needs}
-use Rattle.gp_model.proofs.kernels.value.Statement.{statement}
-use Rattle.gp_model.proofs.kernels.value.Tie as tie
+use Rattle.arith.proofs.value.Statement.{statement}
+use Rattle.arith.proofs.value.Tie as tie
 
 enum-known-o : tie.Need-enum-known-o
 enum-known-o c = search needs
