@@ -1,2 +1,11 @@
+pub mod Agree
+pub mod Cells
+pub mod Dimensions
+pub mod First
+pub mod Mapping
+pub mod Places
 pub mod Rows
 pub mod Tests
+pub mod Training
+pub mod Usable
+pub mod View

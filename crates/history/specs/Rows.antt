@@ -3,7 +3,8 @@ use Prim.Native.Nat.{ℕ, _+_, _-_, _*_, _/_, _%_}
 use mathlib.Core.Bool.{Bool, cond}
 use mathlib.Core.List.{List}
 use lib.Dec.{eqb, leb}
-use lib.ListN.{length, getD, drop}
+use lib.ListN.{length, getD, take, drop}
+use Rattle.arith.specs.Lists.{listOf}
 
 -- how many words a row of n slots has
 abbrev pub widthOf : ℕ → ℕ
@@ -20,27 +21,37 @@ unfoldable pub recentCount : ℕ → List ℕ → ℕ
 unfolding rowCount
 recentCount n h = cond (leb (rowCount n h) 100) (rowCount n h) 100
 
+-- how many older words there are
+abbrev pub olderOf : ℕ → List ℕ → ℕ
+olderOf n h = (rowCount n h - recentCount n h) * widthOf n
+
 -- the words of the recent rows; what follows speaks of these alone
 unfoldable pub recentOf : ℕ → List ℕ → List ℕ
 unfolding rowCount recentCount
-recentOf n h = drop ((rowCount n h - recentCount n h) * widthOf n) h
+recentOf n h = drop (olderOf n h) h
 
--- word k of row i
-abbrev pub wordAt : ℕ → List ℕ → ℕ → ℕ → ℕ
-wordAt n r i k = getD r (i * widthOf n + k) 0
+-- row i of the words r
+abbrev pub rowAt : ℕ → List ℕ → ℕ → List ℕ
+rowAt n r i = take (widthOf n) (drop (i * widthOf n) r)
 
-abbrev pub trialAt : ℕ → List ℕ → ℕ → ℕ
-trialAt n r i = wordAt n r i 0
+abbrev pub stateOf : List ℕ → ℕ
+stateOf row = getD row 1 0
 
-abbrev pub stateAt : ℕ → List ℕ → ℕ → ℕ
-stateAt n r i = wordAt n r i 1
+abbrev pub objectiveOf : List ℕ → ℕ
+objectiveOf row = getD row 2 0
 
-abbrev pub objectiveAt : ℕ → List ℕ → ℕ → ℕ
-objectiveAt n r i = wordAt n r i 2
+-- slot s of a row: eight words, 0 the id, 1 to 6 the distribution, 7 the taken value
+abbrev pub slotAt : List ℕ → ℕ → List ℕ
+slotAt row s = take 8 (drop (3 + 8 * s) row)
 
--- word k of slot s of row i: 0 the id, 1 to 6 the distribution, 7 the taken value
-abbrev pub slotWord : ℕ → List ℕ → ℕ → ℕ → ℕ → ℕ
-slotWord n r i s k = wordAt n r i (3 + 8 * s + k)
+abbrev pub slotsOf : ℕ → List ℕ → List (List ℕ)
+slotsOf n row = listOf (λ s. slotAt row s) n
 
-abbrev pub idAt : ℕ → List ℕ → ℕ → ℕ → ℕ
-idAt n r i s = slotWord n r i s 0
+abbrev pub idOf : List ℕ → ℕ
+idOf slot = getD slot 0 0
+
+abbrev pub kindOf : List ℕ → ℕ
+kindOf slot = getD slot 1 0
+
+abbrev pub takenWord : List ℕ → ℕ
+takenWord slot = getD slot 7 0

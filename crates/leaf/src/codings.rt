@@ -10,7 +10,7 @@ use distribution::ParamValue;
 use distribution::Read;
 
 // The distribution of the six words from `from` on.
-fn read(args: &[u64], from: usize) -> Read
+pub(crate) fn read(args: &[u64], from: usize) -> Read
     requires { ⌜ from + 6 ≤ length (now args) ⌝ }
 {
     distribution::distribution_of(

@@ -7,6 +7,7 @@ use crate::codings;
 use crate::draws;
 use crate::model;
 use crate::normal;
+use crate::records;
 use crate::reply::Reply;
 use crate::reply::Results;
 use word_text::Parsed;
@@ -104,6 +105,15 @@ fn call(name: &[u8], args: &[u64], results: &mut Results) -> Reply
     }
     if same(name, b"optimize_acquisition") {
         return model::optimize_acquisition(args, results);
+    }
+    if same(name, b"history") {
+        return records::history(args, results);
+    }
+    if same(name, b"mapping") {
+        return records::mapping(args, results);
+    }
+    if same(name, b"training") {
+        return records::training(args, results);
     }
     Reply::Unreadable
 }

@@ -10,6 +10,7 @@ mod line;
 mod model;
 mod normal;
 mod output;
+mod records;
 mod reply;
 
 fn main() {

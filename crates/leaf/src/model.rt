@@ -29,7 +29,7 @@ fn floats(args: &[u64]) -> [f64; 4096]
 }
 
 // Puts the first n floats from `at` on, as words.
-fn put(xs: &[f64], n: usize, results: &mut Results, at: usize)
+pub(crate) fn put(xs: &[f64], n: usize, results: &mut Results, at: usize)
     requires { ⌜ (n ≤ length (now xs)) × (at + n ≤ 8192) ⌝ }
 {
     let mut i = 0;

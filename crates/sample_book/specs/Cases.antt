@@ -1,18 +1,21 @@
 -- Document 01's sample book, as facts of the definitions. Definitions and statements only.
 use mathlib.Core.Path.{_≡_}
-use mathlib.Core.Bool.{false}
+use mathlib.Core.Bool.{true, false}
 use lib.IntN.{ℤ, pos, negsuc}
 use lib.Signed.{ltZ}
 use lib.Ieee.{binary64, ofBits, ofInt, toBits}
 use Rattle.arith.specs.declared.Outcome.the-variants.{Value}
 use Rattle.arith.specs.Exp.{expOf}
 use Rattle.arith.specs.Ln.{lnOf}
+use Rattle.arith.specs.Lists.{filled}
 use Rattle.arith.specs.Outcome.{wordOf}
 use Rattle.arith.specs.Sqrt.{sqrtOf}
 use Rattle.distribution.specs.declared.Distribution.{Distribution}
 use Rattle.distribution.specs.declared.ParamValue.{ParamValue}
 use Rattle.common.specs.Decode.{fromInternalOf}
 use Rattle.common.specs.Random.{sampleRandomOf}
+use Rattle.history.specs.Dimensions.{dimensionOf}
+use Rattle.history.specs.Mapping.{none, mappingOf}
 use Rattle.acquisition.specs.Improvement.{expectedImprovementOf}
 use Rattle.acquisition.specs.Normal.{normCdfOf}
 use Rattle.rng_util.specs.Draws.{wholeDrawOf}
@@ -51,3 +54,6 @@ pub record SampleBook : Type 0 where
   pub k-above : expectedImprovementOf (ofInt binary64 (pos 2)) (ofBits binary64 0) (ofInt binary64 (pos 3)) ≡ Value (ofInt binary64 (pos 1))
   -- best 1 gives 0
   pub k-below : expectedImprovementOf (ofInt binary64 (pos 2)) (ofBits binary64 0) (ofInt binary64 (pos 1)) ≡ Value (ofBits binary64 0)
+  -- (l) equal distributions under ids 9, 4 map to 4, then 9
+  pub l : mappingOf 2 (dimensionOf (ints (pos 0) (pos 9) (pos 0)) ∷ dimensionOf (ints (pos 0) (pos 9) (pos 0)) ∷ []) 2 (7 ∷ 1 ∷ 0 ∷ 9 ∷ 2 ∷ 0 ∷ 9 ∷ 0 ∷ 0 ∷ 0 ∷ 5 ∷ 4 ∷ 2 ∷ 0 ∷ 9 ∷ 0 ∷ 0 ∷ 0 ∷ 5 ∷ [])
+      ≡ record { number = 0; ids = filled none 20 (record { found = true; id = 4 } ∷ record { found = true; id = 9 } ∷ []) }

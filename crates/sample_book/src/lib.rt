@@ -1,4 +1,4 @@
-// The sample book of document 01, cases (a) to (l) as far as their definitions are here: proved by computing them.
+// The sample book of document 01, cases (a) to (l): proved by computing them.
 ghost use Rattle.sample_book.specs.Cases.{SampleBook};
 
 pub fn cases()

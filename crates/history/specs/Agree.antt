@@ -1,0 +1,43 @@
+-- When two histories agree, in the words of demand 3 and of document 01, and what is then the same. Definitions and statements only, proved in proofs/Order.
+use Prim.Native.Nat.{ℕ, _≤_, _<_}
+use mathlib.Core.Path.{_≡_}
+use mathlib.Core.Bool.{not}
+use mathlib.Core.List.{List, List·Permᴰ}
+use mathlib.Core.Logic.{_⊎_}
+use lib.Dec.{T, leb}
+use Rattle.history.specs.declared.DimensionInfo.{DimensionInfo}
+use Rattle.history.specs.Rows.{wholeRows, rowCount, recentOf, rowAt, stateOf, objectiveOf, slotsOf}
+use Rattle.history.specs.Tests.{refusalOf}
+use Rattle.history.specs.Mapping.{mappingOf}
+use Rattle.history.specs.Training.{trainingOf}
+use Rattle.history.specs.View.{viewOf}
+
+-- "the objectives are equal, the states equal or both in 0 to 3, one row's slots the other's in some order"; objectives and slots word for word. Trial numbers are not spoken of.
+pub record RowsAgree (n : ℕ) (a b : List ℕ) : Type 0 where
+  pub objective : objectiveOf a ≡ objectiveOf b
+  pub state : (stateOf a ≡ stateOf b) ⊎ ((stateOf a ≤ 3) × (stateOf b ≤ 3))
+  pub slots : List·Permᴰ (slotsOf n a) (slotsOf n b)
+
+-- "both are whole rows, both or neither reach the start-up count, and their last hundred rows are equal in order"; "Recent rows are equally many in both"
+pub record WholeAgree (n startup : ℕ) (g h : List ℕ) : Type 0 where
+  pub whole : T (wholeRows n g) × T (wholeRows n h)
+  pub reach : leb startup (rowCount n g) ≡ leb startup (rowCount n h)
+  pub many : rowCount n (recentOf n g) ≡ rowCount n (recentOf n h)
+  pub rows : (i : ℕ) → i < rowCount n (recentOf n g) → RowsAgree n (rowAt n (recentOf n g) i) (rowAt n (recentOf n h) i)
+
+-- "Two histories agree when neither is whole rows, or when both are"; n is the setting slots
+abbrev pub Agree : ℕ → ℕ → List ℕ → List ℕ → Type 0
+Agree n startup g h = (T (not (wholeRows n g)) × T (not (wholeRows n h))) ⊎ WholeAgree n startup g h
+
+-- what is the same for two histories that agree, for any dimensions
+pub record OrderFree : Type 0 where
+  pub refusal : (n startup : ℕ) (g h : List ℕ) → Agree n startup g h → refusalOf n g ≡ refusalOf n h
+  pub mapping : (n startup : ℕ) (dims : List DimensionInfo) (k : ℕ) (g h : List ℕ) → Agree n startup g h → mappingOf n dims k g ≡ mappingOf n dims k h
+  pub training : (n startup : ℕ) (dims : List DimensionInfo) (k : ℕ) (g h : List ℕ) → Agree n startup g h → trainingOf n dims k g ≡ trainingOf n dims k h
+  pub view : (n startup : ℕ) (dims : List DimensionInfo) (k : ℕ) (g h : List ℕ) → Agree n startup g h → viewOf n startup dims k g ≡ viewOf n startup dims k h
+
+-- "older words are never read": each answer is a function of the recent rows and of whether the length is whole rows
+pub record OlderUnread : Type 0 where
+  pub refusal : (n : ℕ) (g h : List ℕ) → wholeRows n g ≡ wholeRows n h → recentOf n g ≡ recentOf n h → refusalOf n g ≡ refusalOf n h
+  pub mapping : (n : ℕ) (dims : List DimensionInfo) (k : ℕ) (g h : List ℕ) → wholeRows n g ≡ wholeRows n h → recentOf n g ≡ recentOf n h → mappingOf n dims k g ≡ mappingOf n dims k h
+  pub training : (n : ℕ) (dims : List DimensionInfo) (k : ℕ) (g h : List ℕ) → wholeRows n g ≡ wholeRows n h → recentOf n g ≡ recentOf n h → trainingOf n dims k g ≡ trainingOf n dims k h
