@@ -1,0 +1,4 @@
+mod Draws
+pub mod Moving
+mod Numbers
+mod Walk

@@ -1,0 +1,3 @@
+mod Cases
+pub mod SameAnswers
+pub mod Words

@@ -1,0 +1,143 @@
+-- Two runs whose histories agree at each call answer the same and end in the same sampler: a history is seen only through its number and its view. Assumes nothing.
+use Prim.Native.Nat.{ℕ}
+use mathlib.Core.Path.{_≡_, refl, sym, ap, _∙_, subst}
+use mathlib.Core.Bool.{Bool, true, false, not, _&&_, _||_, cond}
+use mathlib.Core.List.{List, [], _∷_}
+use lib.Dec.{T, eqb, ltb}
+use Rattle.distribution.specs.declared.Distribution.{Distribution}
+use Rattle.distribution.specs.declared.ParamValue.{ParamValue}
+use Rattle.distribution.specs.declared.Read.{Read}
+use Rattle.distribution.specs.Words.{readOf}
+use Rattle.common.specs.Random.{sampleRandomOf}
+use Rattle.history.specs.declared.DimensionInfo.{DimensionInfo}
+use Rattle.history.specs.declared.View.{View}
+use Rattle.history.specs.Agree.{Agree}
+use Rattle.history.specs.Mapping.{numberOf}
+use Rattle.history.specs.Dimensions.{dimensionsOk}
+use Rattle.history.specs.Tests.{refusalOf}
+use Rattle.history.specs.View.{viewOf}
+use Rattle.history.proofs.Order.{order-free}
+use Rattle.settings.specs.declared.Settings.{Settings}
+use Rattle.settings.specs.Settings.{settingsOk}
+use Rattle.proposal.specs.declared.Proposal.{Proposal}
+use Rattle.proposal.specs.Proposal.{candidateOf, candidateNumber, refusedOf as refusedProposal, computeCandidateOf}
+use Rattle.sampler.specs.declared.Sampled.{Sampled}
+use Rattle.sampler.specs.declared.Sampler.{Sampler}
+use Rattle.sampler.specs.Calls.{refusedOf, activated, unlessRefused, discoverOf, nextOf, storedOf, newTrialOf, activeOf, servedOf, askedOf, sampleOf, closeOf}
+use Rattle.sampler.specs.Runs.{Asked, asks, closes, Call, callOf, answerOf, answersOf, endOf, Alike, alike-none, alike-asks, alike-closes, SameAnswers}
+use Rattle.sampler.specs.State.{freshOf, placeAt, trialPlace, freePlace, samplerOk}
+
+-- ---- one call with two histories that agree
+
+module _ (s : Sampler) (g h : List ℕ) (a : Agree (s .settings .slots) (s .settings .«n_startup_trials») g h) where
+  abbrev n : ℕ
+  n = s .settings .slots
+
+  number-same : (dims : List DimensionInfo) (k : ℕ) → numberOf n dims k g ≡ numberOf n dims k h
+  unfolding numberOf
+  number-same dims k = ap (λ (m : ℕ). cond (dimensionsOk dims k) m 11) (order-free .refusal n (s .settings .«n_startup_trials») g h a)
+
+  candidate-same : computeCandidateOf (s .settings) (s .dimensions) (s .«n_dims») (s .word) g ≡ computeCandidateOf (s .settings) (s .dimensions) (s .«n_dims») (s .word) h
+  candidate-same = by (viewOf n (s .settings .«n_startup_trials») (s .dimensions) (s .«n_dims») g) (viewOf n (s .settings .«n_startup_trials») (s .dimensions) (s .«n_dims») h) refl refl
+      (order-free .view n (s .settings .«n_startup_trials») (s .dimensions) (s .«n_dims») g h a) (numbers (number-same (s .dimensions) (s .«n_dims»)))
+    where
+      numbers : numberOf n (s .dimensions) (s .«n_dims») g ≡ numberOf n (s .dimensions) (s .«n_dims») h → candidateNumber (s .settings) (s .dimensions) (s .«n_dims») (s .word) g ≡ candidateNumber (s .settings) (s .dimensions) (s .«n_dims») (s .word) h
+      numbers e = unfold candidateNumber in ap (λ (m : ℕ). cond (settingsOk (s .settings) && not (eqb (s .word) 0)) m 11) e
+
+      made : View → ℕ → Proposal
+      made v m = cond (eqb m 0) (candidateOf (s .settings) (s .dimensions) (s .«n_dims») (s .word) v) (refusedProposal m (s .word))
+
+      is : (x : List ℕ) → computeCandidateOf (s .settings) (s .dimensions) (s .«n_dims») (s .word) x ≡ made (viewOf n (s .settings .«n_startup_trials») (s .dimensions) (s .«n_dims») x) (candidateNumber (s .settings) (s .dimensions) (s .«n_dims») (s .word) x)
+      is x = unfold computeCandidateOf in refl
+
+      by : (v w : View) → viewOf n (s .settings .«n_startup_trials») (s .dimensions) (s .«n_dims») g ≡ v → viewOf n (s .settings .«n_startup_trials») (s .dimensions) (s .«n_dims») h ≡ w → v ≡ w
+          → candidateNumber (s .settings) (s .dimensions) (s .«n_dims») (s .word) g ≡ candidateNumber (s .settings) (s .dimensions) (s .«n_dims») (s .word) h
+          → computeCandidateOf (s .settings) (s .dimensions) (s .«n_dims») (s .word) g ≡ computeCandidateOf (s .settings) (s .dimensions) (s .«n_dims») (s .word) h
+      by v w p q e m = is g ∙ ap (λ (x : View). made x (candidateNumber (s .settings) (s .dimensions) (s .«n_dims») (s .word) g)) (p ∙ e ∙ sym q) ∙ ap (made (viewOf n (s .settings .«n_startup_trials») (s .dimensions) (s .«n_dims») h)) m ∙ sym (is h)
+
+  new-same : (trial : ℕ) → newTrialOf s trial g ≡ newTrialOf s trial h
+  unfolding newTrialOf
+  new-same trial = ap (λ (c : Proposal). cond (ltb (freePlace (s .places)) 32) (storedOf s (freePlace (s .places)) trial c) (refusedOf s 9)) candidate-same
+
+  active-same : (d : Distribution) (trial : ℕ) → activeOf s d trial g ≡ activeOf s d trial h
+  unfolding activeOf
+  active-same d trial = ap (λ (r : Sampled). cond (ltb (trialPlace (s .places) trial) 32) (nextOf s d (trialPlace (s .places) trial)) r) (new-same trial)
+
+  served-same : (d : Distribution) (trial : ℕ) → servedOf s d trial g ≡ servedOf s d trial h
+  unfolding servedOf
+  served-same d trial =
+      ap (λ (r : Sampled). cond (s .active) r (cond (eqb (s .«n_dims») 0 || eqb trial (s .«discovery_trial_id»)) (discoverOf s d trial) (unlessRefused s (activeOf (activated s) d trial [])))) (active-same d trial)
+
+  asked-same : (r : Read) (trial : ℕ) → askedOf s r trial g ≡ askedOf s r trial h
+  asked-same Read.Malformed trial = refl
+  asked-same (Read.WellFormed d) trial =
+      ap (λ (r : Sampled). cond (eqb (refusalOf n g) 0) r (refusedOf s (refusalOf n g))) (served-same d trial)
+      ∙ ap (λ (m : ℕ). cond (eqb m 0) (servedOf s d trial h) (refusedOf s m)) (order-free .refusal n (s .settings .«n_startup_trials») g h a)
+
+  sample-same : (d : Asked) (trial : ℕ) → callOf s (asks d trial g) ≡ callOf s (asks d trial h)
+  unfolding sampleOf
+  sample-same d trial = ap (λ (r : Sampled). cond (samplerOk s) r (refusedOf s 11)) (asked-same (readOf (d .kind) (d .low) (d .high) (d .log) (d .stepped) (d .step)) trial)
+
+-- ---- no call changes the settings
+
+abbrev Kept : Settings → Sampled → Type 0
+Kept s r = r .sampler .settings ≡ s
+
+by-test : (s : Settings) (b : Bool) (x y : Sampled) → Kept s x → Kept s y → Kept s (cond b x y)
+by-test s true x y p q = p
+by-test s false x y p q = q
+
+module _ (s : Sampler) where
+  abbrev own : Settings
+  own = s .settings
+
+  discover-kept : (d : Distribution) (trial : ℕ) → Kept own (discoverOf s d trial)
+  unfolding discoverOf
+  discover-kept d trial = by-test own (eqb (s .«n_dims») 20) _ _ refl refl
+
+  next-kept : (d : Distribution) (i : ℕ) → Kept own (nextOf s d i)
+  unfolding nextOf
+  next-kept d i = by-test own (ltb (placeAt (s .places) i .«next_dim») (s .«n_dims»)) _ _ refl refl
+
+  new-kept : (trial : ℕ) (h : List ℕ) → Kept own (newTrialOf s trial h)
+  unfolding newTrialOf
+  new-kept trial h = by-test own (ltb (freePlace (s .places)) 32) _ _ (stored (computeCandidateOf (s .settings) (s .dimensions) (s .«n_dims») (s .word) h)) refl
+    where
+      stored : (c : Proposal) → Kept own (storedOf s (freePlace (s .places)) trial c)
+      stored c = by-test own (eqb (c .number) 0) _ _ refl refl
+
+  active-kept : (d : Distribution) (trial : ℕ) (h : List ℕ) → Kept own (activeOf s d trial h)
+  unfolding activeOf
+  active-kept d trial h = by-test own (ltb (trialPlace (s .places) trial) 32) (nextOf s d (trialPlace (s .places) trial)) (newTrialOf s trial h) (next-kept d (trialPlace (s .places) trial)) (new-kept trial h)
+
+served-kept : (s : Sampler) (d : Distribution) (trial : ℕ) (h : List ℕ) → Kept (s .settings) (servedOf s d trial h)
+unfolding servedOf
+served-kept s d trial h =
+    by-test (s .settings) (s .active) (activeOf s d trial h) _ (active-kept s d trial h)
+    (by-test (s .settings) (eqb (s .«n_dims») 0 || eqb trial (s .«discovery_trial_id»)) (discoverOf s d trial) (unlessRefused s (activeOf (activated s) d trial [])) (discover-kept s d trial)
+    (by-test (s .settings) (eqb (activeOf (activated s) d trial [] .number) 0) (activeOf (activated s) d trial []) _ (active-kept (activated s) d trial []) refl))
+
+asked-kept : (s : Sampler) (r : Read) (trial : ℕ) (h : List ℕ) → Kept (s .settings) (askedOf s r trial h)
+asked-kept s Read.Malformed trial h = refl
+asked-kept s (Read.WellFormed d) trial h = by-test (s .settings) (eqb (refusalOf (s .settings .slots) h) 0) (servedOf s d trial h) _ (served-kept s d trial h) refl
+
+pub settings-kept : (s : Sampler) (c : Call) → Kept (s .settings) (callOf s c)
+settings-kept s (asks d trial h) =
+    unfold sampleOf in by-test (s .settings) (samplerOk s) (askedOf s (readOf (d .kind) (d .low) (d .high) (d .log) (d .stepped) (d .step)) trial h) (refusedOf s 11) (asked-kept s (readOf (d .kind) (d .low) (d .high) (d .log) (d .stepped) (d .step)) trial h) refl
+settings-kept s (closes trial) = unfold closeOf in by-test (s .settings) (samplerOk s) _ (refusedOf s 11) (by-test (s .settings) (ltb (trialPlace (s .places) trial) 32) _ _ refl refl) refl
+
+-- ---- the list
+
+runs-same : (t : Settings) (s : Sampler) → s .settings ≡ t → {cs ds : List Call} → Alike (t .slots) (t .«n_startup_trials») cs ds → (answersOf s cs ≡ answersOf s ds) × (endOf s cs ≡ endOf s ds)
+unfolding answersOf endOf
+runs-same t s e alike-none = (refl, refl)
+runs-same t s e (alike-asks d trial g h {cs} {ds} a rest) =
+    let p = sample-same s g h (subst (λ (x : Settings). Agree (x .slots) (x .«n_startup_trials») g h) (sym e) a) d trial in
+    let r = runs-same t (callOf s (asks d trial g) .sampler) (settings-kept s (asks d trial g) ∙ e) rest in
+    (ap (λ (x : List (ℕ × ParamValue × ℕ)). answerOf (callOf s (asks d trial g)) ∷ x) (r .0) ∙ ap (λ (x : Sampled). answerOf x ∷ answersOf (x .sampler) ds) p, r .1 ∙ ap (λ (x : Sampled). endOf (x .sampler) ds) p)
+runs-same t s e (alike-closes trial {cs} {ds} rest) =
+    let r = runs-same t (callOf s (closes trial) .sampler) (settings-kept s (closes trial) ∙ e) rest in
+    (ap (λ (x : List (ℕ × ParamValue × ℕ)). answerOf (callOf s (closes trial)) ∷ x) (r .0), r .1)
+
+pub same-answers : SameAnswers
+same-answers s t cs ds a = runs-same s (freshOf s) refl a
