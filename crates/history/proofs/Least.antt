@@ -10,7 +10,8 @@ use lib.Ieee.Fits.{and-i, and-l, and-r}
 use borrow.Author.Tests.{lt-ltb, ltb-true, ltb-false}
 use Rattle.arith.proofs.Tests.{taken}
 use Rattle.history.specs.declared.Mapped.{Mapped}
-use Rattle.history.specs.Mapping.{none, insertById, entriesOf, firstEntry, betterOf}
+use Rattle.history.specs.Mapping.{none, insertById, entriesOf, firstEntry}
+use Rattle.history.specs.MappingParts.{betterOf}
 use Rattle.history.specs.Rows.{idOf, slotAt}
 use Rattle.history.specs.Tests.{present}
 

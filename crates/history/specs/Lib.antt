@@ -3,6 +3,7 @@ pub mod Cells
 pub mod Dimensions
 pub mod First
 pub mod Mapping
+pub mod MappingParts
 pub mod Places
 pub mod Rows
 pub mod Tests

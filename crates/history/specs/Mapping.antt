@@ -1,6 +1,6 @@
 -- "Mapping: the first recent row's entries sorted by id; each dimension in order consumes the first equal distribution." Definitions only.
 use Prim.Native.Nat.{ℕ, zero, suc}
-use mathlib.Core.Bool.{Bool, true, false, not, _&&_, _||_, cond}
+use mathlib.Core.Bool.{Bool, true, false, not, _&&_, cond}
 use mathlib.Core.List.{List, [], _∷_}
 use lib.Dec.{eqb, ltb}
 use lib.ListN.{getD}
@@ -32,10 +32,6 @@ none = record { found = false; id = 0 }
 unfoldable pub firstEntry : (List ℕ → Bool) → List (List ℕ) → Mapped
 firstEntry t [] = none
 firstEntry t (v ∷ vs) = cond (t v) (record { found = true; id = idOf v }) (firstEntry t vs)
-
--- the better of a slot and the entry found so far, of lesser id
-abbrev pub betterOf : (List ℕ → Bool) → List ℕ → Mapped → Mapped
-betterOf t v best = cond (present v && t v && (not (best .found) || ltb (idOf v) (best .id))) (record { found = true; id = idOf v }) best
 
 -- an id that one of the first j dimensions consumed
 abbrev pub isMapped : ℕ → Mapped → Bool

@@ -1,3 +1,4 @@
+mod Cases
 mod Draws
 pub mod Moving
 mod Numbers

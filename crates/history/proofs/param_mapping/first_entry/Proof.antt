@@ -6,7 +6,7 @@ use mathlib.Core.Bool.{true, false, not, _&&_}
 use native.Mathlib.Numerals.{add-one}
 use native.Mathlib.Omega.{arith}
 use Rattle.history.proofs.Parts.{part, lent-length}
-use Rattle.history.specs.Mapping.{firstEntry, entriesOf, matchesOf, betterOf}
+use Rattle.history.specs.Mapping.{firstEntry, entriesOf, matchesOf}
 use Rattle.history.specs.Rows.{slotAt}
 use borrow.Author.Needs.{needs}
 use Rattle.history.proofs.param_mapping.first_entry.Statement.{statement}
