@@ -7,7 +7,7 @@ target=$(cd "$here/../.." && pwd)/target/oracle
 # shellcheck disable=SC2034
 compiler=(rustc --edition 2024 -C opt-level=3 -C codegen-units=1 -L "$target/lib")
 
-piece_lines=100000
+piece_lines=50000
 shown_differences=5
 
 usage() {

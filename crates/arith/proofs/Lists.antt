@@ -232,3 +232,46 @@ places-at (suc n) t c h = go (places-at n t c) (t n) refl h
           | inl z ↦ subst (λ (k : ℕ). (k < suc n) × T (t k)) (sym (subst (λ (j : ℕ). getD (placesOf n t ++ (n ∷ [])) j 0 ≡ n) (sym z) (getD-append-seam (placesOf n t) n [] 0))) (omega arith, taken e)
           | inr k ↦ subst (λ (j : ℕ). (j < suc n) × T (t j)) (sym (List·getD-append (placesOf n t) (n ∷ []) 0 c k)) (wider (getD (placesOf n t) c 0) (f k))
         ]
+
+-- ---- how many of them there are
+
+pub places-next : (n : ℕ) (t : ℕ → Bool) → length (placesOf (suc n) t) ≡ length (placesOf n t) + cond (t n) 1 0
+unfolding placesOf
+places-next n t = go (t n)
+  where
+    go : (b : Bool) → length (cond b (placesOf n t ++ (n ∷ [])) (placesOf n t)) ≡ length (placesOf n t) + cond b 1 0
+    go true = length-append (placesOf n t) (n ∷ [])
+    go false = omega arith
+
+-- two tests that differ at one place
+pub places-more : (n : ℕ) (t u : ℕ → Bool) (i : ℕ) → i < n → ((j : ℕ) → j < n → (j ≡ i → ⊥) → t j ≡ u j) → t i ≡ false → u i ≡ true → length (placesOf n u) ≡ length (placesOf n t) + 1
+places-more zero t u i l h a b = absurd (not-suc-le-zero l)
+places-more (suc n) t u i l h a b =
+    let p = places-next n t in
+    let q = places-next n u in
+    elim (eq-or-lt-of-le (le-of-suc-le-suc l)) [
+      | inl e ↦ (let c = ap length (places-same n t u (λ j m. h j (omega arith) (λ z. omega arith))) in
+          let x : _≡_ {A = ℕ} (cond (t n) 1 0) 0 = ap (λ (y : Bool). cond y 1 0) (subst (λ (k : ℕ). t k ≡ false) e a) in
+          let y : _≡_ {A = ℕ} (cond (u n) 1 0) 1 = ap (λ (y : Bool). cond y 1 0) (subst (λ (k : ℕ). u k ≡ true) e b) in omega arith)
+      | inr m ↦ (let c = places-more n t u i m (λ j k. h j (omega arith)) a b in
+          let x : _≡_ {A = ℕ} (cond (t n) 1 0) (cond (u n) 1 0) = ap (λ (y : Bool). cond y 1 0) (h n (omega arith) (λ z. omega arith)) in omega arith)
+    ]
+
+-- as many as there are places: the test holds everywhere
+pub places-all : (n : ℕ) (t : ℕ → Bool) → ((i : ℕ) → i < n → t i ≡ true) → length (placesOf n t) ≡ n
+places-all zero t h = unfold placesOf in refl
+places-all (suc n) t h =
+    let p = places-next n t in
+    let q = places-all n t (λ i l. h i (omega arith)) in
+    let x : _≡_ {A = ℕ} (cond (t n) 1 0) 1 = ap (λ (y : Bool). cond y 1 0) (h n (omega arith)) in omega arith
+
+pub places-full : (n : ℕ) (t : ℕ → Bool) → length (placesOf n t) ≡ n → (i : ℕ) → i < n → t i ≡ true
+places-full zero t e i l = absurd (not-suc-le-zero l)
+places-full (suc n) t e i l = go (λ q m. places-full n t q i m) (t n) refl (places-next n t)
+  where
+    go : (length (placesOf n t) ≡ n → i < n → t i ≡ true) → (b : Bool) → t n ≡ b → length (placesOf (suc n) t) ≡ length (placesOf n t) + cond b 1 0 → t i ≡ true
+    go f true q p = elim (eq-or-lt-of-le (le-of-suc-le-suc l)) [
+      | inl z ↦ subst (λ (k : ℕ). t k ≡ true) (sym z) q
+      | inr m ↦ f (omega arith) m
+    ]
+    go f false q p = let m = places-length n t in absurd (omega arith)

@@ -16,7 +16,7 @@ use Rattle.history.specs.Dimensions.{dimensionAt, continuousOf, columnsO
 use Rattle.history.specs.Mapping.{none, mappedOf, numberOf}
 use Rattle.history.specs.Rows.{rowCount, rowAt, slotAt, recentOf}
 use Rattle.history.specs.Training.{slotWith, coversOf, trainsOf, entryOf, columnOf, keptOf, xOf, yOf, builtOf, recentTraining, refusedOf, trainingOf}
-use Rattle.history.specs.View.{viewOf}
+use Rattle.history.specs.View.{reachesOf, viewOf}
 use Rattle.history.proofs.KeptRows.{cell}
 use Rattle.history.proofs.MappedList.{mapped-length}
 
@@ -81,7 +81,7 @@ training-number n dims k h = go (eqb (numberOf n dims k h) 0) refl
     go false e = refl
 
 -- so it says which view there is
-pub view-is : (n startup : ℕ) (dims : List DimensionInfo) (k : ℕ) (h : List ℕ) (b : Bool) → eqb (trainingOf n dims k h .number) 0 ≡ b → viewOf n startup dims k h ≡ record { reached = b && leb startup (rowCount n h); training = trainingOf n dims k h }
+pub view-is : (n startup : ℕ) (dims : List DimensionInfo) (k : ℕ) (h : List ℕ) (b : Bool) → eqb (trainingOf n dims k h .number) 0 ≡ b → viewOf n startup dims k h ≡ record { reached = b && reachesOf n startup h; training = trainingOf n dims k h }
 unfolding viewOf
 view-is n startup dims k h b e =
-    ap (λ (t : Bool). record { reached = t && leb startup (rowCount n h); training = trainingOf n dims k h }) (ap (λ (x : ℕ). eqb x 0) (sym (training-number n dims k h)) ∙ e)
+    ap (λ (t : Bool). record { reached = t && reachesOf n startup h; training = trainingOf n dims k h }) (ap (λ (x : ℕ). eqb x 0) (sym (training-number n dims k h)) ∙ e)

@@ -15,4 +15,4 @@ mod Recent
 mod SameRow
 mod Sorted
 pub mod Usable
-mod Values
+pub mod Values

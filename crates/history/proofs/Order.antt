@@ -19,7 +19,7 @@ use Rattle.history.specs.Rows.{wholeRows, rowCount, recentOf, rowAt}
 use Rattle.history.specs.Tests.{firstOf, rowOk, slotsOk, idsOnce, rowsAgreeing, recentTests, refusalOf}
 use Rattle.history.specs.Mapping.{none, mappedOf, numberOf, mappingOf}
 use Rattle.history.specs.Training.{trainsOf, columnOf, keptOf, xOf, yOf, builtOf, recentTraining, refusedOf, trainingOf}
-use Rattle.history.specs.View.{viewOf}
+use Rattle.history.specs.View.{reachesOf, viewOf}
 use Rattle.history.specs.Agree.{RowsAgree, WholeAgree, Agree, OrderFree, OlderUnread}
 use Rattle.history.proofs.KeptRows.{cell, kept-row, kept-covers}
 use Rattle.history.proofs.Passed.{Passed, accepted}
@@ -149,10 +149,10 @@ module _ (n startup : ℕ) (g h : List ℕ) (agree : Agree n startup g h) where
         training-by n dims k g h (refusal-same n startup g h agree)
         (λ p. recent-training n (recentOf n g) (recentOf n h) (both-whole p .many) (both-whole p .rows) (ids p) dims k (first-same p dims k))
 
-    reached-same : (eqb (numberOf n dims k g) 0 && leb startup (rowCount n g)) ≡ (eqb (numberOf n dims k h) 0 && leb startup (rowCount n h))
+    reached-same : (eqb (numberOf n dims k g) 0 && reachesOf n startup g) ≡ (eqb (numberOf n dims k h) 0 && reachesOf n startup h)
     reached-same = rw (← (number-by n dims k g h (refusal-same n startup g h agree))) (go (eqb (numberOf n dims k g) 0) refl)
       where
-        go : (b : Bool) → eqb (numberOf n dims k g) 0 ≡ b → (b && leb startup (rowCount n g)) ≡ (b && leb startup (rowCount n h))
+        go : (b : Bool) → eqb (numberOf n dims k g) 0 ≡ b → (b && reachesOf n startup g) ≡ (b && reachesOf n startup h)
         go true e = both-whole (accepted n dims k g (eqb-true (numberOf n dims k g) 0 e) .1) .reach
         go false e = refl
 

@@ -195,7 +195,7 @@ accepted n dims k h = go (eqb (numberOf n dims k h) 0) refl
     go true q e = (eqb-true (numberOf n dims k h) 0 q, refl)
     go false q e = absurd (eqb-false (numberOf n dims k h) 0 q e)
 
-dimensions-ok : (dims : List DimensionInfo) (k : ℕ) → T (dimensionsOk dims k) → (k ≤ 20) × ((j : ℕ) → j < k → T (dimensionOk (dimensionAt dims j)))
+pub dimensions-ok : (dims : List DimensionInfo) (k : ℕ) → T (dimensionsOk dims k) → (k ≤ 20) × ((j : ℕ) → j < k → T (dimensionOk (dimensionAt dims j)))
 unfolding dimensionsOk
 dimensions-ok dims k t = (leb→le k 20 (search parts), every-each k (λ j. dimensionOk (dimensionAt dims j)) (search parts))
 

@@ -29,21 +29,21 @@ use Rattle.history.specs.Training.{entryOf}
 -- ---- the dimension
 
 -- floats of the format with one bit pattern are one float
-same-bits : (a b : Float) → T (fits binary64 a) → T (fits binary64 b) → T (sameBits a b) → a ≡ b
+pub same-bits : (a b : Float) → T (fits binary64 a) → T (fits binary64 b) → T (sameBits a b) → a ≡ b
 same-bits a b p q t = sym (ofBits-toBits binary64 a p) ∙ ap (ofBits binary64) (eqb→eq (toBits binary64 a) (toBits binary64 b) t) ∙ ofBits-toBits binary64 b q
 
-floats-fit : (d : Distribution) → Held d → FloatsFit d
+pub floats-fit : (d : Distribution) → Held d → FloatsFit d
 floats-fit (Distribution.Float d) h = record { low = h .0; high = h .1 }
 floats-fit (Distribution.Int d) h = tt
 floats-fit (Distribution.Categorical d) h = tt
 
-continuous-is : (d : Distribution) → T (continuousOf d) → T (continuous d)
+pub continuous-is : (d : Distribution) → T (continuousOf d) → T (continuous d)
 continuous-is (Distribution.Float d) c = c
 continuous-is (Distribution.Int d) c = c
 continuous-is (Distribution.Categorical d) c = c
 
 -- a malformed distribution has no bounds
-bounds-shape : (d : Distribution) (lo hi : Float) → T (boundsAre (boundsOf d) lo hi) → T (shapeOf d)
+pub bounds-shape : (d : Distribution) (lo hi : Float) → T (boundsAre (boundsOf d) lo hi) → T (shapeOf d)
 unfolding boundsOf
 bounds-shape d lo hi t = go (shapeOf d) t
   where
@@ -59,11 +59,11 @@ pub record Column (d : DimensionInfo) : Type 0 where
   pub lo-fits : T (fits binary64 (d .lo))
   pub hi-fits : T (fits binary64 (d .hi))
 
-shape : (d : DimensionInfo) → Column d → T (shapeOf (d .distribution))
+pub shape : (d : DimensionInfo) → Column d → T (shapeOf (d .distribution))
 unfolding dimensionOk
 shape d r = bounds-shape (d .distribution) (d .lo) (d .hi) (r .ok)
 
-ends : (d : DimensionInfo) → Column d → boundsOf (d .distribution) ≡ InternalBounds.Ends (d .lo) (d .hi)
+pub ends : (d : DimensionInfo) → Column d → boundsOf (d .distribution) ≡ InternalBounds.Ends (d .lo) (d .hi)
 unfolding dimensionOk
 ends d r =
     let b = bounds (d .distribution) (continuous-is (d .distribution) (r .continuous)) (floats-fit (d .distribution) (r .held)) (shape d r) in

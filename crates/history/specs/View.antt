@@ -1,6 +1,6 @@
 -- What a sampler sees of a history: a refusal's number, or whether its rows, all of them, reach the start-up count, and the training data. Definitions only.
 use Prim.Native.Nat.{ℕ}
-use mathlib.Core.Bool.{_&&_}
+use mathlib.Core.Bool.{Bool, _&&_}
 use mathlib.Core.List.{List}
 use lib.Dec.{eqb, leb}
 use Rattle.history.specs.declared.DimensionInfo.{DimensionInfo}
@@ -10,6 +10,9 @@ use Rattle.history.specs.Mapping.{numberOf}
 use Rattle.history.specs.Training.{trainingOf}
 
 -- "Rows reaching start-up are counted over the whole history."
+abbrev pub reachesOf : ℕ → ℕ → List ℕ → Bool
+reachesOf n startup h = leb startup (rowCount n h)
+
 unfoldable pub viewOf : ℕ → ℕ → List DimensionInfo → ℕ → List ℕ → View
 unfolding rowCount numberOf trainingOf
-viewOf n startup dims k h = record { reached = eqb (numberOf n dims k h) 0 && leb startup (rowCount n h); training = trainingOf n dims k h }
+viewOf n startup dims k h = record { reached = eqb (numberOf n dims k h) 0 && reachesOf n startup h; training = trainingOf n dims k h }

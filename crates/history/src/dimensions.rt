@@ -64,7 +64,7 @@ fn dimension_ok(d: DimensionInfo) -> bool
 }
 
 // Whether they are at most 20, each with its distribution's bounds.
-pub(crate) fn dimensions_ok(dims: [DimensionInfo; 20], k: usize) -> bool
+pub fn dimensions_ok(dims: [DimensionInfo; 20], k: usize) -> bool
     ensures { λ r. ⌜ r ≡ dimensionsOk dims k ⌝ }
 {
     if k > 20 {

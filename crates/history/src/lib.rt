@@ -9,6 +9,7 @@ pub mod viewing;
 
 pub use building::build_training_data;
 pub use dimensions::dimension;
+pub use dimensions::dimensions_ok;
 pub use dimensions::is_continuous;
 use distribution::Distribution;
 pub use param_mapping::establish_param_mapping;

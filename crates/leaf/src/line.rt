@@ -10,6 +10,7 @@ use crate::normal;
 use crate::records;
 use crate::reply::Reply;
 use crate::reply::Results;
+use crate::runs;
 use word_text::Parsed;
 
 // The words of a line: how many they are, or that they are malformed.
@@ -114,6 +115,9 @@ fn call(name: &[u8], args: &[u64], results: &mut Results) -> Reply
     }
     if same(name, b"training") {
         return records::training(args, results);
+    }
+    if same(name, b"run") {
+        return runs::run(args, results);
     }
     Reply::Unreadable
 }

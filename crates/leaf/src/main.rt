@@ -12,6 +12,7 @@ mod normal;
 mod output;
 mod records;
 mod reply;
+mod runs;
 
 fn main() {
     let mut held = io::large_buffer();

@@ -1,5 +1,8 @@
 mod Cases
+pub mod Decoded
 mod Draws
 pub mod Moving
-mod Numbers
-mod Walk
+pub mod Numbers
+pub mod Ranges
+pub mod Walk
+pub mod WordCount

@@ -58,13 +58,13 @@ walk-moves given point dims w (suc j) =
 
 -- ---- a fit that is accepted has a model of its rows and columns
 
-record Fitted (x y : List Float) (d : ℕ) (f : Fit) : Type 0 where
-  rows : f .model .n ≡ length y
-  columns : f .model .d ≡ d
-  domain : T (fitDomain x y d)
-  some : length y ≡ 0 → ⊥
+pub record Fitted (x y : List Float) (d : ℕ) (f : Fit) : Type 0 where
+  pub rows : f .model .n ≡ length y
+  pub columns : f .model .d ≡ d
+  pub domain : T (fitDomain x y d)
+  pub some : length y ≡ 0 → ⊥
 
-fitted : (x y : List Float) (d : ℕ) (noise : Float) → fitOf x y d noise .number ≡ 0 → Fitted x y d (fitOf x y d noise)
+pub fitted : (x y : List Float) (d : ℕ) (noise : Float) → fitOf x y d noise .number ≡ 0 → Fitted x y d (fitOf x y d noise)
 unfolding fitOf fittedOf
 fitted x y d noise = go (fitDomain x y d) (eqb (length y) 0) (choleskyOf (kernelMatrixOf x (length y) d (lengthscalesOf x (length y) d) noise) (length y)) refl refl
   where
@@ -81,7 +81,7 @@ fitted x y d noise = go (fitDomain x y d) (eqb (length y) 0) (choleskyOf (kernel
     go false b c p q n = absurd (omega arith)
 
 -- so the search takes it
-searchable : (x y : List Float) (d w : ℕ) (f : Fit) → Fitted x y d f → (w ≡ 0 → ⊥) → T (searchDomain (f .model) d w)
+pub searchable : (x y : List Float) (d w : ℕ) (f : Fit) → Fitted x y d f → (w ≡ 0 → ⊥) → T (searchDomain (f .model) d w)
 unfolding searchDomain countsFit fitDomain
 searchable x y d w f g z =
     let t = g .domain in

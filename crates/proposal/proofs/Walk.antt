@@ -2,13 +2,13 @@
 use Prim.Native.Nat.{ℕ, zero, suc, _+_, _≤_, _<_}
 use mathlib.Core.Path.{_≡_, refl, sym, _∙_}
 use mathlib.Core.Bool.{Bool, true, false, _&&_, cond}
-use mathlib.Core.List.{List, [], _∷_, _++_}
+use mathlib.Core.List.{List, [], _∷_}
 use native.Mathlib.Numerals.{add-one}
 use native.Mathlib.Omega.{arith}
 use lib.ListN.{length, getD, set, length-append}
 use lib.Ieee.{Float, nan}
-use Rattle.arith.specs.Lists.{filled, placesOf}
-use Rattle.arith.proofs.Lists.{filled-set-at}
+use Rattle.arith.specs.Lists.{filled}
+use Rattle.arith.proofs.Lists.{filled-set-at, places-next}
 use Rattle.rng_util.specs.Generator.{movedOf}
 use Rattle.common.specs.Random.{sampleRandomOf}
 use Rattle.common.proofs.Moves.{Moved, random-moves}
@@ -40,12 +40,8 @@ module _ (given : Bool) (point : List Float) (dims : List DimensionInfo) (w : �
 
 -- the columns before the next dimension
 pub columns-next : (dims : List DimensionInfo) (j : ℕ) → length (columnsOf dims j) + cond (continuousOf (dimensionAt dims j .distribution)) 1 0 ≡ length (columnsOf dims (suc j))
-unfolding columnsOf placesOf
-columns-next dims j = go (continuousOf (dimensionAt dims j .distribution))
-  where
-    go : (b : Bool) → length (columnsOf dims j) + cond b 1 0 ≡ length (cond b (columnsOf dims j ++ (j ∷ [])) (columnsOf dims j))
-    go true = sym (length-append (columnsOf dims j) (j ∷ []))
-    go false = omega arith
+unfolding columnsOf
+columns-next dims j = sym (places-next j (λ j. continuousOf (dimensionAt dims j .distribution)))
 
 -- the next value is written behind those before it
 pub walk-set : (given : Bool) (point : List Float) (dims : List DimensionInfo) (w j : ℕ) → j < 20

@@ -23,9 +23,10 @@ use Rattle.proposal.specs.declared.Proposal.{Proposal}
 use Rattle.proposal.specs.Proposal.{candidateOf, candidateNumber, refusedOf as refusedProposal, computeCandidateOf}
 use Rattle.sampler.specs.declared.Sampled.{Sampled}
 use Rattle.sampler.specs.declared.Sampler.{Sampler}
-use Rattle.sampler.specs.Calls.{refusedOf, activated, unlessRefused, discoverOf, nextOf, storedOf, newTrialOf, activeOf, servedOf, askedOf, sampleOf, closeOf}
-use Rattle.sampler.specs.Runs.{Asked, asks, closes, Call, callOf, answerOf, answersOf, endOf, Alike, alike-none, alike-asks, alike-closes, SameAnswers}
-use Rattle.sampler.specs.State.{freshOf, placeAt, trialPlace, freePlace, samplerOk}
+use Rattle.sampler.specs.Calls.{refusedOf, activated, unlessRefused, discoverOf, nextOf, storedOf, newTrialOf, activeOf, servedOf, askedOf, sampleOf}
+use Rattle.sampler.specs.Runs.{Asked, asks, closes, Call, callOf, answerOf, answersOf, endOf, Alike, alike-none, alike-asks, alike-closes}
+use Rattle.sampler.specs.State.{trialPlace, freePlace, samplerOk}
+use Rattle.sampler.proofs.Kept.{settings-kept}
 
 -- ---- one call with two histories that agree
 
@@ -78,57 +79,9 @@ module _ (s : Sampler) (g h : List ℕ) (a : Agree (s .settings .slots) (s .sett
   unfolding sampleOf
   sample-same d trial = ap (λ (r : Sampled). cond (samplerOk s) r (refusedOf s 11)) (asked-same (readOf (d .kind) (d .low) (d .high) (d .log) (d .stepped) (d .step)) trial)
 
--- ---- no call changes the settings
-
-abbrev Kept : Settings → Sampled → Type 0
-Kept s r = r .sampler .settings ≡ s
-
-by-test : (s : Settings) (b : Bool) (x y : Sampled) → Kept s x → Kept s y → Kept s (cond b x y)
-by-test s true x y p q = p
-by-test s false x y p q = q
-
-module _ (s : Sampler) where
-  abbrev own : Settings
-  own = s .settings
-
-  discover-kept : (d : Distribution) (trial : ℕ) → Kept own (discoverOf s d trial)
-  unfolding discoverOf
-  discover-kept d trial = by-test own (eqb (s .«n_dims») 20) _ _ refl refl
-
-  next-kept : (d : Distribution) (i : ℕ) → Kept own (nextOf s d i)
-  unfolding nextOf
-  next-kept d i = by-test own (ltb (placeAt (s .places) i .«next_dim») (s .«n_dims»)) _ _ refl refl
-
-  new-kept : (trial : ℕ) (h : List ℕ) → Kept own (newTrialOf s trial h)
-  unfolding newTrialOf
-  new-kept trial h = by-test own (ltb (freePlace (s .places)) 32) _ _ (stored (computeCandidateOf (s .settings) (s .dimensions) (s .«n_dims») (s .word) h)) refl
-    where
-      stored : (c : Proposal) → Kept own (storedOf s (freePlace (s .places)) trial c)
-      stored c = by-test own (eqb (c .number) 0) _ _ refl refl
-
-  active-kept : (d : Distribution) (trial : ℕ) (h : List ℕ) → Kept own (activeOf s d trial h)
-  unfolding activeOf
-  active-kept d trial h = by-test own (ltb (trialPlace (s .places) trial) 32) (nextOf s d (trialPlace (s .places) trial)) (newTrialOf s trial h) (next-kept d (trialPlace (s .places) trial)) (new-kept trial h)
-
-served-kept : (s : Sampler) (d : Distribution) (trial : ℕ) (h : List ℕ) → Kept (s .settings) (servedOf s d trial h)
-unfolding servedOf
-served-kept s d trial h =
-    by-test (s .settings) (s .active) (activeOf s d trial h) _ (active-kept s d trial h)
-    (by-test (s .settings) (eqb (s .«n_dims») 0 || eqb trial (s .«discovery_trial_id»)) (discoverOf s d trial) (unlessRefused s (activeOf (activated s) d trial [])) (discover-kept s d trial)
-    (by-test (s .settings) (eqb (activeOf (activated s) d trial [] .number) 0) (activeOf (activated s) d trial []) _ (active-kept (activated s) d trial []) refl))
-
-asked-kept : (s : Sampler) (r : Read) (trial : ℕ) (h : List ℕ) → Kept (s .settings) (askedOf s r trial h)
-asked-kept s Read.Malformed trial h = refl
-asked-kept s (Read.WellFormed d) trial h = by-test (s .settings) (eqb (refusalOf (s .settings .slots) h) 0) (servedOf s d trial h) _ (served-kept s d trial h) refl
-
-pub settings-kept : (s : Sampler) (c : Call) → Kept (s .settings) (callOf s c)
-settings-kept s (asks d trial h) =
-    unfold sampleOf in by-test (s .settings) (samplerOk s) (askedOf s (readOf (d .kind) (d .low) (d .high) (d .log) (d .stepped) (d .step)) trial h) (refusedOf s 11) (asked-kept s (readOf (d .kind) (d .low) (d .high) (d .log) (d .stepped) (d .step)) trial h) refl
-settings-kept s (closes trial) = unfold closeOf in by-test (s .settings) (samplerOk s) _ (refusedOf s 11) (by-test (s .settings) (ltb (trialPlace (s .places) trial) 32) _ _ refl refl) refl
-
 -- ---- the list
 
-runs-same : (t : Settings) (s : Sampler) → s .settings ≡ t → {cs ds : List Call} → Alike (t .slots) (t .«n_startup_trials») cs ds → (answersOf s cs ≡ answersOf s ds) × (endOf s cs ≡ endOf s ds)
+pub runs-same : (t : Settings) (s : Sampler) → s .settings ≡ t → {cs ds : List Call} → Alike (t .slots) (t .«n_startup_trials») cs ds → (answersOf s cs ≡ answersOf s ds) × (endOf s cs ≡ endOf s ds)
 unfolding answersOf endOf
 runs-same t s e alike-none = (refl, refl)
 runs-same t s e (alike-asks d trial g h {cs} {ds} a rest) =
@@ -138,6 +91,3 @@ runs-same t s e (alike-asks d trial g h {cs} {ds} a rest) =
 runs-same t s e (alike-closes trial {cs} {ds} rest) =
     let r = runs-same t (callOf s (closes trial) .sampler) (settings-kept s (closes trial) ∙ e) rest in
     (ap (λ (x : List (ℕ × ParamValue × ℕ)). answerOf (callOf s (closes trial)) ∷ x) (r .0), r .1)
-
-pub same-answers : SameAnswers
-same-answers s t cs ds a = runs-same s (freshOf s) refl a

@@ -18,13 +18,13 @@ use Rattle.proposal.proofs.Moving.{compute-moves}
 use Rattle.sampler.specs.declared.Sampled.{Sampled}
 use Rattle.sampler.specs.declared.Sampler.{Sampler}
 use Rattle.sampler.specs.Calls.{refusedOf, drawnOf, withDimension, activated, unlessRefused, discoverOf, nextOf, storedOf, newTrialOf, activeOf, servedOf, askedOf, sampleOf, closeOf}
-use Rattle.sampler.specs.Runs.{asks, closes, Call, callOf, WordsDrawn}
+use Rattle.sampler.specs.Runs.{asks, closes, Call, callOf}
 use Rattle.sampler.specs.State.{placeAt, trialPlace, freePlace, samplerOk}
 
 -- an answer to a call on s
-record Right (s : Sampler) (r : Sampled) : Type 0 where
-  moves : r .sampler .word ≡ movedOf (r .drawn) (s .word)
-  refused : (r .number ≡ 0 → ⊥) → (r .drawn ≡ 0) × (r .sampler ≡ s)
+pub record Right (s : Sampler) (r : Sampled) : Type 0 where
+  pub moves : r .sampler .word ≡ movedOf (r .drawn) (s .word)
+  pub refused : (r .number ≡ 0 → ⊥) → (r .drawn ≡ 0) × (r .sampler ≡ s)
 
 by-test : (s : Sampler) (b : Bool) (x y : Sampled) → Right s x → Right s y → Right s (cond b x y)
 by-test s true x y p q = p
@@ -83,10 +83,7 @@ close : (s : Sampler) (trial : ℕ) → Right s (closeOf s trial)
 unfolding closeOf movedOf
 close s trial = by-test s (samplerOk s) _ (refusedOf s 11) (by-test s (ltb (trialPlace (s .places) trial) 32) _ (refusedOf s 10) (record { moves = refl; refused = λ q. absurd (q refl) }) (no s 10)) (no s 11)
 
-call : (s : Sampler) (c : Call) → Right s (callOf s c)
+pub call : (s : Sampler) (c : Call) → Right s (callOf s c)
 call s (asks d trial h) =
     unfold sampleOf in by-test s (samplerOk s) (askedOf s (readOf (d .kind) (d .low) (d .high) (d .log) (d .stepped) (d .step)) trial h) (refusedOf s 11) (asked s (readOf (d .kind) (d .low) (d .high) (d .log) (d .stepped) (d .step)) trial h) (no s 11)
 call s (closes trial) = close s trial
-
-pub words-drawn : WordsDrawn
-words-drawn = record { moves = λ s c. call s c .moves; refused = λ s c e. call s c .refused e }

@@ -1,3 +1,5 @@
 pub mod Calls
+pub mod Laws
+pub mod NewTrials
 pub mod Runs
 pub mod State

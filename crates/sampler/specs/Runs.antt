@@ -1,17 +1,11 @@
--- Runs of calls, and two runs whose histories agree: the first half of demand 3. Definitions and a statement, proved in proofs/SameAnswers.
+-- Runs of calls, and two runs whose histories agree. Definitions only.
 use Prim.Native.Nat.{ℕ}
-use mathlib.Core.Path.{_≡_}
 use mathlib.Core.List.{List, [], _∷_}
-use lib.Dec.{T}
 use Rattle.distribution.specs.declared.ParamValue.{ParamValue}
-use Rattle.rng_util.specs.Generator.{movedOf}
 use Rattle.history.specs.Agree.{Agree}
-use Rattle.settings.specs.declared.Settings.{Settings}
-use Rattle.settings.specs.Settings.{settingsOk}
 use Rattle.sampler.specs.declared.Sampled.{Sampled}
 use Rattle.sampler.specs.declared.Sampler.{Sampler}
 use Rattle.sampler.specs.Calls.{sampleOf, closeOf}
-use Rattle.sampler.specs.State.{freshOf}
 
 -- six words asked, as one list of arguments
 pub record Asked : Type 0 where
@@ -50,13 +44,7 @@ pub data Alike (n startup : ℕ) : List Call → List Call → Type 0 where
   alike-asks : (d : Asked) (trial : ℕ) (g h : List ℕ) {cs ds : List Call} → Agree n startup g h → Alike n startup cs ds → Alike n startup (asks d trial g ∷ cs) (asks d trial h ∷ ds)
   alike-closes : (trial : ℕ) {cs ds : List Call} → Alike n startup cs ds → Alike n startup (closes trial ∷ cs) (closes trial ∷ ds)
 
--- "then answers, words drawn and end state are equal in both runs"
-abbrev pub SameAnswers : Type 0
-SameAnswers =
-    (s : Settings) → T (settingsOk s) → (cs ds : List Call) → Alike (s .slots) (s .«n_startup_trials») cs ds
-    → (answersOf (freshOf s) cs ≡ answersOf (freshOf s) ds) × (endOf (freshOf s) cs ≡ endOf (freshOf s) ds)
-
--- "Words drawn: the generator's moves in a call, 0 if refused."
-pub record WordsDrawn : Type 0 where
-  pub moves : (s : Sampler) (c : Call) → callOf s c .sampler .word ≡ movedOf (callOf s c .drawn) (s .word)
-  pub refused : (s : Sampler) (c : Call) → (callOf s c .number ≡ 0 → ⊥) → (callOf s c .drawn ≡ 0) × (callOf s c .sampler ≡ s)
+-- each call of a run, on the sampler that it gets
+unfoldable pub Along : (Sampler → Call → Type 0) → Sampler → List Call → Type 0
+Along P s [] = Unit
+Along P s (c ∷ cs) = P s c × Along P (callOf s c .sampler) cs

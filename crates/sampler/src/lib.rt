@@ -1,10 +1,18 @@
-// The sampler of gp.rs, by value: making one, and the definitions of its calls. The functions of the calls follow.
-ghost use mathlib.Core.Path.{_≡_};
-ghost use Rattle.sampler.specs.State.{freshOf, makeOf};
-use distribution::CategoricalDistribution;
-use distribution::Distribution;
+// The sampler of gp.rs, by value: making one, its two calls, and what is promised of every run of them.
+pub mod calls;
+pub mod checking;
+pub mod laws;
+pub mod making;
+pub mod phases;
+pub mod places;
+pub mod states;
+
+pub use calls::close;
+pub use calls::sample;
 use distribution::ParamValue;
 use history::DimensionInfo;
+pub use making::build;
+pub use places::taken_count;
 use proposal::Stored;
 use settings::Settings;
 
@@ -38,56 +46,4 @@ pub struct Sampled {
     pub value: ParamValue,
     pub drawn: u64,
     pub sampler: Sampler,
-}
-
-// A fresh sampler.
-fn fresh(settings: Settings) -> Sampler
-    ensures { λ r. ⌜ r ≡ freshOf settings ⌝ }
-{
-    let values = [Stored {
-        value: ParamValue::Float(0.0),
-    }; 20];
-    let dimension = DimensionInfo {
-        distribution: Distribution::Categorical(CategoricalDistribution { n_choices: 0 }),
-        lo: 0.0,
-        hi: 0.0,
-    };
-    let place = Place {
-        trial: 0,
-        values,
-        next_dim: 0,
-    };
-    let dimensions = [dimension; 20];
-    let places = [place; 32];
-    Sampler {
-        settings,
-        word: settings.seed,
-        active: false,
-        discovery_trial_id: 0,
-        dimensions,
-        n_dims: 0,
-        places,
-    }
-}
-
-// A sampler made from its settings: 1 where one is out of range, and then none is made.
-pub fn build(settings: Settings) -> Made
-    ensures { λ r. ⌜ r ≡ makeOf settings ⌝ }
-{
-    if !settings::in_range(settings) {
-        return Made {
-            number: 1,
-            sampler: fresh(Settings {
-                n_startup_trials: 0,
-                n_candidates: 0,
-                noise_variance: 0.0,
-                seed: 0,
-                slots: 0,
-            }),
-        };
-    }
-    Made {
-        number: 0,
-        sampler: fresh(settings),
-    }
 }

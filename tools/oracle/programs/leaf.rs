@@ -7,11 +7,9 @@ use leaf_lines::{Answer, Leaf, answer_input, float_to_word, word_to_float};
 use optimizer::distribution::Distribution;
 use optimizer::leaves::{self, Model};
 use optimizer::param::ParamValue;
-use records::{CHOICE, DistributionWords, FLOAT, INT};
+use records::{DistributionWords, value_words};
+use run::MAX_DIMENSIONS;
 use training::{Training, floats, is_point, take};
-
-/// The most dimensions of a sampler.
-const MAX_DIMENSIONS: u64 = 20;
 
 /// The leaves by name. A new leaf is one more line here and a function of its words.
 const LEAVES: &[(&str, Leaf)] = &[
@@ -42,6 +40,7 @@ const LEAVES: &[(&str, Leaf)] = &[
     ("history", history),
     ("mapping", mapping),
     ("training", training),
+    ("run", run::run),
 ];
 
 fn next(words: &[u64]) -> Option<Answer> {
@@ -253,7 +252,7 @@ fn dimensions_and_history(words: &[u64]) -> Option<Result<(Vec<Distribution>, Hi
 }
 
 fn dimension_list(count: u64, words: &[u64]) -> Result<Vec<Distribution>, Refusal> {
-    if count > MAX_DIMENSIONS {
+    if count > MAX_DIMENSIONS as u64 {
         return Err(OUT_OF_DOMAIN);
     }
     let (dimensions, _) = words.as_chunks();
@@ -262,15 +261,6 @@ fn dimension_list(count: u64, words: &[u64]) -> Result<Vec<Distribution>, Refusa
 
 fn well_formed(words: &DistributionWords) -> Result<Distribution, Refusal> {
     records::distribution(words).ok_or(OUT_OF_DOMAIN)
-}
-
-/// A value's kind and its word.
-fn value_words(value: &ParamValue) -> [u64; 2] {
-    match *value {
-        ParamValue::Float(v) => [FLOAT, float_to_word(v)],
-        ParamValue::Int(v) => [INT, v as u64],
-        ParamValue::Categorical(v) => [CHOICE, v as u64],
-    }
 }
 
 /// 1 for true, 0 for false.

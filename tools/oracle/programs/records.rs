@@ -1,5 +1,6 @@
 //! Words as the records of document 01, section "Records": distributions and values.
 
+use leaf_lines::float_to_word;
 use optimizer::distribution::{
     CategoricalDistribution, Distribution, FloatDistribution, IntDistribution,
 };
@@ -101,6 +102,15 @@ pub fn value(kind: u64, word: u64) -> Option<ParamValue> {
         INT => Some(ParamValue::Int(word as i64)),
         CHOICE => Some(ParamValue::Categorical(word as usize)),
         _ => None,
+    }
+}
+
+/// A value's kind and its word.
+pub fn value_words(value: &ParamValue) -> [u64; 2] {
+    match *value {
+        ParamValue::Float(v) => [FLOAT, float_to_word(v)],
+        ParamValue::Int(v) => [INT, v as u64],
+        ParamValue::Categorical(v) => [CHOICE, v as u64],
     }
 }
 

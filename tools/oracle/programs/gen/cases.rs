@@ -3,7 +3,7 @@
 use crate::distributions::{choice, float, int};
 use crate::floats::uniform;
 use crate::lists::reordered;
-use crate::values::taken_value;
+use crate::values::{inner_value, taken_value};
 use history::{HEAD_WORDS, SLOT_WORDS};
 use records::DistributionWords;
 use splitmix::SplitMix64;
@@ -18,6 +18,9 @@ pub const STATE: usize = 1;
 pub const OBJECTIVE: usize = 2;
 pub const KIND: usize = 1;
 pub const TAKEN: usize = 7;
+
+/// Makes a value for a distribution.
+pub type Values = fn(&mut SplitMix64, &DistributionWords) -> u64;
 
 #[derive(Clone, Copy)]
 pub struct Parameter {
@@ -58,8 +61,17 @@ impl Case {
     /// Each row has all the parameters, in changing slots and with taken values; the dimensions
     /// have their distributions.
     pub fn of(slots: usize, parameters: &[Parameter], rows: usize) -> Self {
+        Self::with_values(slots, parameters, rows, taken_value)
+    }
+
+    /// The same with values between the ends.
+    pub fn inner(slots: usize, parameters: &[Parameter], rows: usize) -> Self {
+        Self::with_values(slots, parameters, rows, inner_value)
+    }
+
+    fn with_values(slots: usize, parameters: &[Parameter], rows: usize, value: Values) -> Self {
         let mut rng = SplitMix64::for_line(slots as u64, rows as u64);
-        let mut row = |number| full_row(&mut rng, number, slots, parameters);
+        let mut row = |number| full_row(&mut rng, number, slots, parameters, value);
         let rows = (0..rows as u64).map(&mut row).collect();
         let dimensions = parameters.iter().map(|parameter| parameter.distribution).collect();
         Self { slots: slots as u64, dimensions, rows, tail: vec![] }
@@ -109,7 +121,8 @@ impl Case {
         [&counts, &self.dimensions.concat()[..], &self.row_words()].concat()
     }
 
-    fn row_words(&self) -> Vec<u64> {
+    /// The words of the history alone.
+    pub fn row_words(&self) -> Vec<u64> {
         let rows = self.rows.iter().flat_map(Row::words);
         rows.chain(self.tail.iter().copied()).collect()
     }
@@ -128,9 +141,15 @@ pub fn distribution_of(slot: &Slot) -> DistributionWords {
     std::array::from_fn(|place| slot[KIND + place])
 }
 
-fn full_row(rng: &mut SplitMix64, number: u64, slots: usize, parameters: &[Parameter]) -> Row {
+pub fn full_row(
+    rng: &mut SplitMix64,
+    number: u64,
+    slots: usize,
+    parameters: &[Parameter],
+    value: Values,
+) -> Row {
     let objective = uniform(rng, -10.0, 10.0).to_bits();
-    let entries = parameters.iter().map(|p| p.slot(taken_value(rng, &p.distribution)));
+    let entries = parameters.iter().map(|p| p.slot(value(rng, &p.distribution)));
     let mut list: Vec<Slot> = entries.collect();
     list.resize(slots, ABSENT);
     Row { head: [number, number % 4, objective], slots: reordered(rng, list) }

@@ -200,7 +200,8 @@ fn unread_rows() -> Vec<Case> {
     counts.map(|(slots, rows)| with_random_words(Case::fixed(slots, rows))).to_vec()
 }
 
-fn with_random_words(mut case: Case) -> Case {
+/// Those before the recent ones.
+pub fn with_random_words(mut case: Case) -> Case {
     let mut rng = SplitMix64::for_line(3, case.rows.len() as u64);
     let older = case.rows.len() - RECENT_ROWS;
     for row in &mut case.rows[..older] {

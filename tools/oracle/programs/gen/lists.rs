@@ -6,7 +6,8 @@ use std::collections::HashSet;
 use std::hash::Hash;
 
 /// The first item of each list, then the second of each, and so on to the end of the longest.
-pub fn alternated<T: Clone + Eq + Hash, const N: usize>(lists: [Vec<T>; N]) -> Vec<T> {
+pub fn alternated<T: Clone + Eq + Hash>(lists: impl AsRef<[Vec<T>]>) -> Vec<T> {
+    let lists = lists.as_ref();
     let length = lists.iter().map(Vec::len).max().unwrap_or(0);
     let rows = (0..length).flat_map(|row| lists.iter().filter_map(move |list| list.get(row)));
     distinct(rows.cloned().collect())

@@ -1,11 +1,13 @@
 //! `gen NAME COUNT SEED [--from N] [--skip-edges] [--unreadable PERCENT]`: writes lines of leaf calls.
 //! `gen --names`: writes the names of the leaves.
 //! `gen --searches COLUMNS CANDIDATES COUNT`: writes searches to be timed.
+//! `gen --pairs COUNT SEED [--from N]`: writes pairs of lines of `run` with equal answers.
 //!
 //! The lines of a name are its edges and then random ones without end. A line depends on the seed
 //! and on its own number alone. `--from N` leaves out the first N lines, `--skip-edges` all edges.
 //! Of the random lines about PERCENT in a hundred cannot be read.
 
+mod agreeing;
 mod cases;
 mod damages;
 mod distribution_limits;
@@ -24,7 +26,11 @@ mod predictions;
 mod random_cases;
 mod random_distributions;
 mod random_fits;
+mod random_runs;
 mod random_values;
+mod run_edges;
+mod run_models;
+mod runs;
 mod scales;
 mod searches;
 mod unreadable;
@@ -84,10 +90,14 @@ const LEAVES: &[(&str, Calls)] = &[
     ("history", Calls::Words(history_edges::edges, random_cases::history)),
     ("mapping", Calls::Words(mapping_edges::edges, random_cases::model)),
     ("training", Calls::Words(mapping_edges::edges, random_cases::model)),
+    ("run", Calls::Words(run_edges::edges, random_runs::words)),
 ];
 
 /// The leaf that is timed.
 const SEARCH: &str = "optimize_acquisition";
+
+/// The leaf of pairs.
+const RUN: &str = "run";
 
 struct Options {
     name: &'static str,
@@ -170,6 +180,25 @@ fn write_searches(arguments: impl Iterator<Item = String>) -> Option<io::Result<
     Some(io::stdout().write_all(&text))
 }
 
+/// None where an argument cannot be read.
+fn write_pairs(mut arguments: impl Iterator<Item = String>) -> Option<io::Result<()>> {
+    let (count, seed) = (parse_number(arguments.next())?, parse_number(arguments.next())?);
+    let from = match arguments.next().as_deref() {
+        None => 0,
+        Some("--from") => parse_number(arguments.next())?,
+        Some(_) => return None,
+    };
+    let pairs = agreeing::Pairs::new(seed);
+    let mut output = BufWriter::new(io::stdout().lock());
+    let mut write = |words: &[u64]| output.write_all(&[&line(RUN, words)[..], b"\n"].concat());
+    let mut numbers = from..from + count;
+    let written = numbers.try_for_each(|number| {
+        let [first, second] = pairs.pair(number);
+        write(&first).and_then(|()| write(&second))
+    });
+    Some(written.and_then(|()| output.flush()))
+}
+
 fn write_names() -> io::Result<()> {
     LEAVES.iter().try_for_each(|(name, _)| writeln!(io::stdout(), "{name}"))
 }
@@ -179,11 +208,13 @@ fn main() -> io::Result<()> {
     let written = match std::env::args().nth(1).as_deref() {
         Some("--names") => Some(write_names()),
         Some("--searches") => write_searches(arguments.skip(1)),
+        Some("--pairs") => write_pairs(arguments.skip(1)),
         _ => parse_options(arguments).map(|options| write_lines(&options)),
     };
     written.unwrap_or_else(|| {
         eprintln!("usage: gen NAME COUNT SEED [--from N] [--skip-edges] [--unreadable PERCENT]");
         eprintln!("   or: gen --names, gen --searches COLUMNS CANDIDATES COUNT");
+        eprintln!("   or: gen --pairs COUNT SEED [--from N]");
         std::process::exit(2);
     })
 }

@@ -28,6 +28,20 @@ pub fn edges() -> Vec<Vec<u64>> {
     distinct([words(&sizes(&[1, 2])), small, words(&large())].concat())
 }
 
+/// Good histories and good dimensions, about which of them belong together.
+pub fn mappings() -> Vec<Case> {
+    alternated([
+        equal_distributions(),
+        unmatched(),
+        choices(),
+        zeros(),
+        one_point(),
+        first_rows(),
+        missing_ids(),
+        each_distribution(),
+    ])
+}
+
 fn words(cases: &[Case]) -> Vec<Vec<u64>> {
     cases.iter().map(Case::model_words).collect()
 }

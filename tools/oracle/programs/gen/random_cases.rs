@@ -61,9 +61,9 @@ fn case(rng: &mut SplitMix64) -> Case {
     let dimensions = dimensions(rng, &rows);
     let mut case = Case { slots: slots as u64, dimensions, rows, tail: vec![] };
     if rng.below(16) < 5 {
-        damage(rng, &mut case, &parameters);
+        damage(rng, &mut case.rows, &parameters);
         if rng.below(4) == 0 {
-            damage(rng, &mut case, &parameters);
+            damage(rng, &mut case.rows, &parameters);
         }
     }
     case
@@ -94,7 +94,7 @@ fn parameters(rng: &mut SplitMix64, slots: usize) -> Vec<Parameter> {
 }
 
 /// Different ones.
-fn ids(rng: &mut SplitMix64, count: usize) -> Vec<u64> {
+pub fn ids(rng: &mut SplitMix64, count: usize) -> Vec<u64> {
     let mut ids = Vec::with_capacity(count);
     while ids.len() < count {
         let id = random_id(rng);
@@ -127,14 +127,14 @@ fn row(rng: &mut SplitMix64, number: u64, slots: usize, parameters: &[Parameter]
 }
 
 /// The distribution may have other zeros than in other rows.
-fn entry(rng: &mut SplitMix64, parameter: &Parameter) -> Slot {
+pub fn entry(rng: &mut SplitMix64, parameter: &Parameter) -> Slot {
     let taken = taken_value(rng, &parameter.distribution);
     let d = parameter.distribution;
     let distribution = if rng.below(8) == 0 { with_other_zeros(d) } else { d };
     Parameter { distribution, ..*parameter }.slot(taken)
 }
 
-fn head(rng: &mut SplitMix64, number: u64) -> [u64; 3] {
+pub fn head(rng: &mut SplitMix64, number: u64) -> [u64; 3] {
     let trial = if rng.below(4) == 0 { rng.next_word() } else { number };
     let objective = match rng.below(16) {
         0 => rng.pick(&[0.0, -0.0, MAX_OBJECTIVE, -MAX_OBJECTIVE]),
@@ -171,15 +171,15 @@ fn dimensions(rng: &mut SplitMix64, rows: &[Row]) -> Vec<DistributionWords> {
 }
 
 /// One row is changed, an older one of a long history as often as a recent one.
-fn damage(rng: &mut SplitMix64, case: &mut Case, parameters: &[Parameter]) {
-    let count = case.rows.len() as u64;
+pub fn damage(rng: &mut SplitMix64, rows: &mut [Row], parameters: &[Parameter]) {
+    let count = rows.len() as u64;
     let older = count.saturating_sub(RECENT_ROWS as u64);
     let row = match (older, count) {
         (_, 0) => return,
         (1.., _) if rng.below(2) == 0 => rng.below(older),
         _ => older + rng.below(count - older),
     };
-    damage_row(rng, &mut case.rows[row as usize], parameters);
+    damage_row(rng, &mut rows[row as usize], parameters);
 }
 
 fn damage_row(rng: &mut SplitMix64, row: &mut Row, parameters: &[Parameter]) {

@@ -120,6 +120,15 @@ pub fn taken_value(rng: &mut SplitMix64, words: &DistributionWords) -> u64 {
     }
 }
 
+/// A value between the ends of a well-formed distribution.
+pub fn inner_value(rng: &mut SplitMix64, words: &DistributionWords) -> u64 {
+    match records::distribution(words).expect("a well-formed distribution") {
+        Distribution::Float(d) => uniform(rng, d.low, d.high).to_bits(),
+        Distribution::Int(d) => rng.between(d.low, d.high) as u64,
+        Distribution::Categorical(d) => rng.below(d.n_choices as u64),
+    }
+}
+
 pub fn is_taken(words: &DistributionWords, word: u64) -> bool {
     let pair = records::value(words[0], word).zip(records::distribution(words));
     pair.is_some_and(|(value, d)| records::may_be_taken(&value, &d))

@@ -7,6 +7,7 @@ use borrow.Author.Tests.{eq-eqb, ne-eqb}
 use Rattle.history.specs.declared.Training.{Training}
 use Rattle.history.specs.Rows.{rowCount}
 use Rattle.history.specs.Training.{trainingOf}
+use Rattle.history.specs.View.{reachesOf}
 use Rattle.history.proofs.FromArray.{training-number, view-is}
 use Rattle.history.proofs.Passed.{opened}
 use borrow.Author.Needs.{needs}
@@ -48,7 +49,7 @@ returns-2 c =
     let a = c .before .before .before .before .args in
     let e = c .before .before .build-training-data .ensures in
     let t : eqb (trainingOf (a .slots) (a .dims) (a .k) (a .h .now) .number) 0 ≡ true = rw (sym e) (eq-eqb (c .before .before .build-training-data .result .number) 0 (c .if1 .left)) in
-    sym (view-is (a .slots) (a .startup) (a .dims) (a .k) (a .h .now) true t ∙ ap (λ (x : Training). record { reached = leb (a .startup) (rowCount (a .slots) (a .h .now)); training = x }) (sym e))
+    sym (view-is (a .slots) (a .startup) (a .dims) (a .k) (a .h .now) true t ∙ ap (λ (x : Training). record { reached = reachesOf (a .slots) (a .startup) (a .h .now); training = x }) (sym e))
 
 pub view-of-spec : {M : Type 1} → statement M
 view-of-spec =

@@ -1,7 +1,7 @@
 //! Lends what `gp.rs` keeps to itself. `prepare` makes this a child module of it, which sees its
 //! private items.
 
-use super::{DimensionInfo, GpModel, GpState};
+use super::{DimensionInfo, GpModel, GpPhase, GpSampler, GpState};
 use crate::distribution::Distribution;
 use crate::parameter::ParamId;
 use crate::sampler::CompletedTrial;
@@ -93,4 +93,45 @@ fn discovered(distributions: &[Distribution]) -> Vec<DimensionInfo> {
         super::sample_discovery(&mut state, distribution, 0);
     }
     state.dimensions
+}
+
+/// What a sampler keeps behind its mutex. The Rust has no `close`: dropping a trial's progress is
+/// all that it would do there.
+impl GpSampler {
+    /// Whether discovery has ended.
+    pub fn is_active(&self) -> bool {
+        matches!(self.state.lock().phase, GpPhase::Active)
+    }
+
+    /// None before the first call.
+    pub fn discovery_trial(&self) -> Option<u64> {
+        self.state.lock().discovery_trial_id
+    }
+
+    pub fn dimension_count(&self) -> usize {
+        self.state.lock().dimensions.len()
+    }
+
+    /// The number of trials with progress.
+    pub fn place_count(&self) -> usize {
+        self.state.lock().trial_progress.len()
+    }
+
+    pub fn has_place(&self, trial: u64) -> bool {
+        self.state.lock().trial_progress.contains_key(&trial)
+    }
+
+    /// Drops the trial's progress; false where it has none.
+    pub fn free_place(&self, trial: u64) -> bool {
+        self.state.lock().trial_progress.remove(&trial).is_some()
+    }
+
+    pub fn generator_word(&self) -> u64 {
+        self.state.lock().rng.state()
+    }
+
+    /// How many words were drawn so far.
+    pub fn words_drawn(&self) -> u64 {
+        self.state.lock().rng.drawn()
+    }
 }

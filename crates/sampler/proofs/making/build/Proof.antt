@@ -1,11 +1,11 @@
--- `sampler::build` meets its contract. Assumes nothing.
+-- `sampler::making::build` meets its contract. Assumes nothing.
 use mathlib.Core.Path.{sym}
 use lib.Ieee.{ofBits}
 use borrow.Author.Tests.{not-true, not-false}
 use Rattle.sampler.specs.State.{makeOf}
 use borrow.Author.Needs.{needs}
-use Rattle.sampler.proofs.build.Statement.{statement}
-use Rattle.sampler.proofs.build.Tie as tie
+use Rattle.sampler.proofs.making.build.Statement.{statement}
+use Rattle.sampler.proofs.making.build.Tie as tie
 
 in-range-requires : tie.Need-in-range-requires
 in-range-requires c κs = search needs

@@ -1,0 +1,70 @@
+// A sampler with a field or two changed, and the answers made of it.
+ghost use mathlib.Core.Path.{_≡_};
+ghost use Prim.Native.Nat.{_<_};
+ghost use Rattle.sampler.specs.Calls.{refusedOf, withWord, withPlace, activated, withDimension, drawnOf};
+use crate::Place;
+use crate::Sampled;
+use crate::Sampler;
+use common::RandomDraw;
+use distribution::Distribution;
+use distribution::ParamValue;
+
+// A refusal: the sampler as it was, and no word drawn.
+pub(crate) fn refused(s: Sampler, number: u64) -> Sampled
+    ensures { λ r. ⌜ r ≡ refusedOf s number ⌝ }
+{
+    Sampled {
+        number,
+        value: ParamValue::Refused(number),
+        drawn: 0,
+        sampler: s,
+    }
+}
+
+pub(crate) fn with_word(mut s: Sampler, word: u64) -> Sampler
+    ensures { λ r. ⌜ r ≡ withWord s word ⌝ }
+{
+    s.word = word;
+    s
+}
+
+pub(crate) fn with_place(mut s: Sampler, i: usize, p: Place) -> Sampler
+    requires { ⌜ i < 32 ⌝ }
+    ensures { λ r. ⌜ r ≡ withPlace s i p ⌝ }
+{
+    s.places[i] = p;
+    s
+}
+
+// Discovery ended.
+pub(crate) fn with_discovery_ended(mut s: Sampler) -> Sampler
+    ensures { λ r. ⌜ r ≡ activated s ⌝ }
+{
+    s.active = true;
+    s
+}
+
+// One more dimension, for the discovery trial.
+pub(crate) fn with_dimension(mut s: Sampler, trial: u64, d: Distribution) -> Sampler
+    requires { ⌜ s .«n_dims» < 20 ⌝ }
+    ensures { λ r. ⌜ r ≡ withDimension s trial d ⌝ }
+{
+    let k = s.n_dims;
+    s.discovery_trial_id = trial;
+    s.dimensions[k] = history::dimension(d);
+    s.n_dims = k + 1;
+    s
+}
+
+// A random value drawn at the sampler's word.
+pub(crate) fn with_draw(s: Sampler, r: RandomDraw) -> Sampled
+    ensures { λ r1. ⌜ r1 ≡ drawnOf s r ⌝ }
+{
+    let value = r.value;
+    Sampled {
+        number: 0,
+        value,
+        drawn: r.drawn,
+        sampler: with_word(s, r.next),
+    }
+}
