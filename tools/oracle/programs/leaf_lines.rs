@@ -50,6 +50,11 @@ fn answer_line(leaves: &[(&str, Leaf)], line: &[u8]) -> Option<Answer> {
     leaf(&words)
 }
 
+/// Words with one space between; none for any other text.
+pub fn parse_words(text: &[u8]) -> Option<Vec<u64>> {
+    text.split(|&byte| byte == b' ').map(parse_word).collect()
+}
+
 /// Sixteen lower-case hexadecimal digits.
 fn parse_word(field: &[u8]) -> Option<u64> {
     if field.len() != 16 {

@@ -1,4 +1,4 @@
-//! Lists of calls on a sampler: the answers are those of the Rust's `Sampler::sample`.
+//! Calls on a sampler: the answers are those of the Rust's `Sampler::sample`. Lists of them for `leaf`.
 //! The Rust has neither the refusals 1 to 10 nor `close`: they are written from document 01.
 
 use arithmetic::Refusal;
@@ -30,14 +30,14 @@ pub const SAMPLE: u64 = 1;
 pub const CLOSE: u64 = 2;
 
 /// Number, kind, value and words drawn.
-type CallAnswer = [u64; 4];
+pub type CallAnswer = [u64; 4];
 
-struct Settings {
+pub struct Settings {
     startup: u64,
     candidates: u64,
     noise: f64,
     seed: u64,
-    slots: u64,
+    pub slots: u64,
 }
 
 enum Call<'a> {
@@ -48,10 +48,10 @@ enum Call<'a> {
 /// The settings and then calls: four words for each call, the generator's word and the number of
 /// taken places. None where the words do not divide into calls, whatever the settings are.
 pub fn run(words: &[u64]) -> Option<Answer> {
-    let &[startup, candidates, noise, seed, slots, ref rest @ ..] = words else { return None };
-    let settings = Settings { startup, candidates, noise: word_to_float(noise), seed, slots };
+    let (settings, rest) = words.split_first_chunk()?;
+    let settings = Settings::of(settings);
     let calls = read_calls(rest)?;
-    Some(settings.sampler().map(|sampler| answers(&sampler, slots, &calls)))
+    Some(settings.sampler().map(|sampler| answers(&sampler, settings.slots, &calls)))
 }
 
 fn read_calls(mut words: &[u64]) -> Option<Vec<Call<'_>>> {
@@ -79,7 +79,14 @@ fn read_call(words: &[u64]) -> Option<(Call<'_>, &[u64])> {
 }
 
 impl Settings {
-    fn sampler(&self) -> Result<GpSampler, Refusal> {
+    /// In the order of the text.
+    pub fn of(words: &[u64; 5]) -> Self {
+        let &[startup, candidates, noise, seed, slots] = words;
+        Self { startup, candidates, noise: word_to_float(noise), seed, slots }
+    }
+
+    /// Refused where a setting is out of range.
+    pub fn sampler(&self) -> Result<GpSampler, Refusal> {
         if !self.are_within_range() {
             return Err(SETTING_OUT_OF_RANGE);
         }
@@ -114,7 +121,7 @@ fn answer(sampler: &GpSampler, slots: u64, call: &Call) -> CallAnswer {
 }
 
 /// The words drawn are the moves that the generator counts.
-fn sample(
+pub fn sample(
     sampler: &GpSampler,
     slots: u64,
     trial: u64,

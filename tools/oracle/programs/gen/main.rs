@@ -2,6 +2,8 @@
 //! `gen --names`: writes the names of the leaves.
 //! `gen --searches COLUMNS CANDIDATES COUNT`: writes searches to be timed.
 //! `gen --pairs COUNT SEED [--from N]`: writes pairs of lines of `run` with equal answers.
+//! `gen --texts COUNT SEED [--from N]`: writes texts of `propose`, edges first, as `frames` has them,
+//! and on standard error how many are damaged copies. `gen --stored-texts`: writes those that are stored.
 //!
 //! The lines of a name are its edges and then random ones without end. A line depends on the seed
 //! and on its own number alone. `--from N` leaves out the first N lines, `--skip-edges` all edges.
@@ -27,17 +29,25 @@ mod random_cases;
 mod random_distributions;
 mod random_fits;
 mod random_runs;
+mod random_texts;
 mod random_values;
 mod run_edges;
 mod run_models;
 mod runs;
 mod scales;
 mod searches;
+mod text_damage;
+mod text_edges;
+mod text_faults;
+mod texts;
 mod unreadable;
 mod values;
 
+use frames::write_frame;
 use splitmix::SplitMix64;
 use std::io::{self, BufWriter, Write};
+use std::ops::Range;
+use text_edges::Made;
 
 /// The calls of a leaf: its edges, and how to make a random one.
 enum Calls {
@@ -180,23 +190,51 @@ fn write_searches(arguments: impl Iterator<Item = String>) -> Option<io::Result<
     Some(io::stdout().write_all(&text))
 }
 
-/// None where an argument cannot be read.
-fn write_pairs(mut arguments: impl Iterator<Item = String>) -> Option<io::Result<()>> {
+/// The seed and the numbers of COUNT SEED [--from N]; none where an argument cannot be read.
+fn seed_and_numbers(mut arguments: impl Iterator<Item = String>) -> Option<(u64, Range<u64>)> {
     let (count, seed) = (parse_number(arguments.next())?, parse_number(arguments.next())?);
     let from = match arguments.next().as_deref() {
         None => 0,
         Some("--from") => parse_number(arguments.next())?,
         Some(_) => return None,
     };
+    Some((seed, from..from + count))
+}
+
+/// None where an argument cannot be read.
+fn write_pairs(arguments: impl Iterator<Item = String>) -> Option<io::Result<()>> {
+    let (seed, mut numbers) = seed_and_numbers(arguments)?;
     let pairs = agreeing::Pairs::new(seed);
     let mut output = BufWriter::new(io::stdout().lock());
     let mut write = |words: &[u64]| output.write_all(&[&line(RUN, words)[..], b"\n"].concat());
-    let mut numbers = from..from + count;
     let written = numbers.try_for_each(|number| {
         let [first, second] = pairs.pair(number);
         write(&first).and_then(|()| write(&second))
     });
     Some(written.and_then(|()| output.flush()))
+}
+
+/// None where an argument cannot be read.
+fn write_texts(arguments: impl Iterator<Item = String>) -> Option<io::Result<()>> {
+    let (seed, numbers) = seed_and_numbers(arguments)?;
+    let edges = text_edges::edges();
+    let made = numbers.map(|number| match edges.get(number as usize) {
+        Some(edge) => edge.clone(),
+        None => random_texts::made(&mut SplitMix64::for_line(seed, number)),
+    });
+    Some(write_made(made))
+}
+
+fn write_made(texts: impl IntoIterator<Item = Made>) -> io::Result<()> {
+    let mut output = BufWriter::new(io::stdout().lock());
+    let (mut count, mut damaged) = (0, 0);
+    for text in texts {
+        write_frame(&mut output, &text.bytes)?;
+        count += 1;
+        damaged += u64::from(text.damaged);
+    }
+    eprintln!("{count} texts made, {damaged} of them damaged copies");
+    output.flush()
 }
 
 fn write_names() -> io::Result<()> {
@@ -209,12 +247,15 @@ fn main() -> io::Result<()> {
         Some("--names") => Some(write_names()),
         Some("--searches") => write_searches(arguments.skip(1)),
         Some("--pairs") => write_pairs(arguments.skip(1)),
+        Some("--texts") => write_texts(arguments.skip(1)),
+        Some("--stored-texts") => Some(write_made(text_edges::stored())),
         _ => parse_options(arguments).map(|options| write_lines(&options)),
     };
     written.unwrap_or_else(|| {
         eprintln!("usage: gen NAME COUNT SEED [--from N] [--skip-edges] [--unreadable PERCENT]");
         eprintln!("   or: gen --names, gen --searches COLUMNS CANDIDATES COUNT");
-        eprintln!("   or: gen --pairs COUNT SEED [--from N]");
+        eprintln!("   or: gen --pairs COUNT SEED [--from N], gen --texts COUNT SEED [--from N]");
+        eprintln!("   or: gen --stored-texts");
         std::process::exit(2);
     })
 }

@@ -234,7 +234,7 @@ fn wide(rng: &mut SplitMix64) -> Run {
 }
 
 /// Simple ones and any others, some of them several times.
-fn parameters(rng: &mut SplitMix64, count: usize) -> Vec<Parameter> {
+pub fn parameters(rng: &mut SplitMix64, count: usize) -> Vec<Parameter> {
     let variety = if rng.below(4) == 0 { 1 + rng.below(count as u64) } else { count as u64 };
     let pool: Vec<_> = (0..variety).map(|_| distribution(rng)).collect();
     let ids = ids(rng, count);
@@ -286,7 +286,7 @@ fn settings(rng: &mut SplitMix64, slots: u64, rows: u64) -> Settings {
 /// A start-up about which a long history's rows are.
 const RECENT: u64 = 98;
 
-fn random_noise(rng: &mut SplitMix64) -> f64 {
+pub fn random_noise(rng: &mut SplitMix64) -> f64 {
     match rng.below(16) {
         0 => rng.pick(&[0.0, -0.0]),
         1 => rng.pick(&[1.0, 0.1, 1e-3, MAX_NOISE]),

@@ -1,0 +1,105 @@
+//! The text of `propose`, written from document 01: three tables in, one out.
+
+use arithmetic::Refusal;
+use history::{HEAD_WORDS, SLOT_WORDS};
+use leaf_lines::parse_words;
+use optimizer::sampler::gp::GpSampler;
+use run::{Settings, sample};
+
+const MALFORMED_TEXT: Refusal = Refusal(14);
+
+/// The most words of a history.
+pub const MAX_HISTORY_WORDS: usize = 8_192;
+
+pub const SETTINGS_NAMES: &str = "startup candidates noise seed slots";
+const ROW_NAMES: &str = "trial state value";
+const SLOT_NAMES: &str = " id kind low high log stepped step taken";
+pub const CALL_NAMES: &str = "trial kind low high log stepped step";
+const ANSWER_NAMES: &str = "trial kind value drawn";
+
+/// The names line of a history.
+pub fn history_names(slots: u64) -> String {
+    ROW_NAMES.to_owned() + &SLOT_NAMES.repeat(slots as usize)
+}
+
+/// The whole output for a whole input.
+pub fn answer(text: &[u8]) -> Vec<u8> {
+    let mut output = format!("{ANSWER_NAMES}\n");
+    if let Err(Refusal(number)) = answer_lines(Lines { rest: text }, &mut output) {
+        add_line(&mut output, [0, 0, number, 0]);
+    }
+    output.into_bytes()
+}
+
+/// The lines are judged in order; an error ends the run.
+fn answer_lines(mut lines: Lines, output: &mut String) -> Result<(), Refusal> {
+    lines.read_names(SETTINGS_NAMES)?;
+    let settings = Settings::of(&words(lines.read()?)?);
+    let sampler = settings.sampler()?;
+    lines.read_names(&history_names(settings.slots))?;
+    let history = read_history(&mut lines, settings.slots)?;
+    while !lines.are_over() {
+        let call = words(lines.read()?)?;
+        add_line(output, answer_call(&sampler, settings.slots, &history, &call));
+    }
+    Ok(())
+}
+
+/// Up to the names line of the calls, that line included.
+fn read_history(lines: &mut Lines, slots: u64) -> Result<Vec<u64>, Refusal> {
+    let row_words = HEAD_WORDS + SLOT_WORDS * slots as usize;
+    let mut history = vec![];
+    loop {
+        let line = lines.read()?;
+        if line == CALL_NAMES.as_bytes() {
+            return Ok(history);
+        }
+        let row = parse_words(line).filter(|row| row.len() == row_words).ok_or(MALFORMED_TEXT)?;
+        history.extend(row);
+        if history.len() > MAX_HISTORY_WORDS {
+            return Err(MALFORMED_TEXT);
+        }
+    }
+}
+
+/// Trial, kind, value and words drawn; for a refused call trial, 0, the number and 0.
+fn answer_call(sampler: &GpSampler, slots: u64, history: &[u64], call: &[u64; 7]) -> [u64; 4] {
+    let [trial, asked @ ..] = call;
+    match sample(sampler, slots, *trial, asked, history) {
+        Ok([_, kind, value, drawn]) => [*trial, kind, value, drawn],
+        Err(Refusal(number)) => [*trial, 0, number, 0],
+    }
+}
+
+/// A line of exactly N words.
+fn words<const N: usize>(line: &[u8]) -> Result<[u64; N], Refusal> {
+    parse_words(line).and_then(|words| words.try_into().ok()).ok_or(MALFORMED_TEXT)
+}
+
+fn add_line(output: &mut String, words: [u64; 4]) {
+    *output += &words.map(|word| format!("{word:016x}")).join(" ");
+    output.push('\n');
+}
+
+/// The lines that are not read yet.
+struct Lines<'a> {
+    rest: &'a [u8],
+}
+
+impl<'a> Lines<'a> {
+    fn are_over(&self) -> bool {
+        self.rest.is_empty()
+    }
+
+    /// The next line without its newline, which must be there.
+    fn read(&mut self) -> Result<&'a [u8], Refusal> {
+        let end = self.rest.iter().position(|&byte| byte == b'\n').ok_or(MALFORMED_TEXT)?;
+        let line = &self.rest[..end];
+        self.rest = &self.rest[end + 1..];
+        Ok(line)
+    }
+
+    fn read_names(&mut self, names: &str) -> Result<(), Refusal> {
+        if self.read()? == names.as_bytes() { Ok(()) } else { Err(MALFORMED_TEXT) }
+    }
+}
