@@ -194,7 +194,7 @@ pub fn of_texts() -> Vec<Vec<u8>> {
     let returns = lines.iter().map(|line| [&line[..line.len() - 1], b"\r\n"].concat()).collect();
     let returns: Lines = returns;
     let few: [&[u8]; 6] = [b"\n", b"\r\n", b" ", b"\0", b"startup", b"\xef\xbb\xbf"];
-    let long = [vec![b'0'; 70_000], vec![b' '; 300], b"trial ".repeat(9_000)];
+    let long = [vec![b'0'; 70_000], vec![b' '; 300], b"trial ".repeat(500)];
     beginnings
         .chain(endings)
         .chain(again)
