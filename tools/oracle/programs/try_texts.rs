@@ -14,9 +14,8 @@ use std::time::Duration;
 
 const SAVED_DIFFERENCES: u64 = 5;
 
-/// One text in so many goes in pieces, if it is not long.
+/// One text in so many goes in pieces.
 const IN_PIECES: u64 = 8;
-const MAX_IN_PIECES: usize = 4_000;
 const MOST_PIECES: u64 = 12;
 /// Long enough for the program to read what is there.
 const PAUSE: Duration = Duration::from_micros(100);
@@ -69,7 +68,7 @@ fn word(field: &str) -> u64 {
 
 /// The pieces in which a text is given.
 fn pieces<'a>(rng: &mut SplitMix64, text: &'a [u8]) -> Vec<&'a [u8]> {
-    if text.len() > MAX_IN_PIECES || rng.below(IN_PIECES) > 0 {
+    if rng.below(IN_PIECES) > 0 {
         return vec![text];
     }
     let mut cuts: Vec<usize> =

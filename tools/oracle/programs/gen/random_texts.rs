@@ -78,7 +78,7 @@ fn settings(rng: &mut SplitMix64, slots: u64, rows: u64) -> Settings {
         2 => 10,
         _ => rng.below(rows + 1),
     };
-    let candidates = if rng.below(128) == 0 { 1_000 } else { rng.below(50) };
+    let candidates = if rng.below(32) == 0 { 1_000 } else { rng.below(50) };
     let noise = random_noise(rng).to_bits();
     Settings { startup, candidates, noise, seed: rng.next_word().max(1), slots }
 }

@@ -5,6 +5,7 @@ use crate::damages;
 use crate::distributions::{choice, float, int};
 use crate::history_edges::with_random_words;
 use crate::lists::{alternated, distinct, shuffled};
+use crate::random_texts;
 use crate::run_edges;
 use crate::run_models::{of_mixed, settings, unit};
 use crate::runs::Settings;
@@ -14,6 +15,7 @@ use crate::texts::{Text, of_run, word_line};
 use history::{MAX_SLOTS, RECENT_ROWS};
 use propose_text::MAX_HISTORY_WORDS;
 use run::{MAX_DIMENSIONS, MAX_PLACES};
+use splitmix::SplitMix64;
 
 #[derive(Clone, PartialEq, Eq, Hash)]
 pub struct Made {
@@ -39,7 +41,7 @@ pub fn edges() -> Vec<Made> {
     alternated([&good[..], &damaged, &[as_texts(runs())]].concat())
 }
 
-/// Some of each list, few of the long ones: what is stored.
+/// Some of each list, few of the long ones, and short random ones: what is stored.
 pub fn stored() -> Vec<Made> {
     let good = [
         known(),
@@ -56,12 +58,17 @@ pub fn stored() -> Vec<Made> {
         text_faults::of_texts(),
         text_faults::settings_first(),
         few(text_faults::row_lengths(), 20),
-        few(older_lines(), 4),
-        few(lines_about_the_limit(), 2),
+        few(older_lines(), 2),
+        few(lines_about_the_limit(), 1),
     ];
     let good = good.into_iter().flat_map(as_texts);
-    distinct(good.chain(damaged.into_iter().flat_map(as_damaged)).collect())
+    let random = (0..).map(|number| random_texts::made(&mut SplitMix64::for_line(1, number)));
+    let random = random.filter(|made| made.bytes.len() < SHORT).take(60);
+    distinct(good.chain(damaged.into_iter().flat_map(as_damaged)).chain(random).collect())
 }
+
+/// Bytes of a short text.
+const SHORT: usize = 5_000;
 
 fn few<T>(mut list: Vec<T>, count: usize) -> Vec<T> {
     list.truncate(count);
