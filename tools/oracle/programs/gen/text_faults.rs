@@ -181,7 +181,7 @@ pub fn names() -> Vec<Vec<u8>> {
     (0..=lines.len()).flat_map(at_place).collect()
 }
 
-/// The first lines of a text, lines that end it, and changes of all lines.
+/// The first lines of a text, what comes before it or after it, and changes of all lines.
 pub fn of_texts() -> Vec<Vec<u8>> {
     let lines = good().lines();
     let whole = lines.concat();
@@ -189,8 +189,11 @@ pub fn of_texts() -> Vec<Vec<u8>> {
     let endings: [&[u8]; 9] =
         [b"\n", b" ", b"\0", b"\x1a", b"0", b"\r\n", b"end\n", b"\n\n", b"0000000000000007"];
     let endings = endings.map(|ending| [&whole, ending].concat());
-    let again = [word_line(&settings(1, 1, 2).words()), lines[3].clone(), whole.clone()];
-    let again = again.map(|ending| [&whole[..], &ending].concat());
+    let again = [0, 1, 2, 3, 5].map(|place| [&whole[..], &lines[place]].concat());
+    let twice = [&whole[..], &whole].concat();
+    let marks: [&[u8]; 3] = [b"\xef\xbb\xbf", b"\xff\xfe", b"\n"];
+    let marks = marks.map(|mark| [mark, &whole].concat());
+    let two_names = [&lines[..6], &lines[5..]].concat().concat();
     let returns = lines.iter().map(|line| [&line[..line.len() - 1], b"\r\n"].concat()).collect();
     let returns: Lines = returns;
     let few: [&[u8]; 6] = [b"\n", b"\r\n", b" ", b"\0", b"startup", b"\xef\xbb\xbf"];
@@ -198,7 +201,8 @@ pub fn of_texts() -> Vec<Vec<u8>> {
     beginnings
         .chain(endings)
         .chain(again)
-        .chain([returns.concat(), whole.to_ascii_uppercase()])
+        .chain(marks)
+        .chain([twice, two_names, returns.concat(), whole.to_ascii_uppercase()])
         .chain(few.map(<[u8]>::to_vec))
         .chain(long.clone())
         .chain(long.map(|ending| [&whole[..], &ending].concat()))
