@@ -16,6 +16,7 @@ use history::{MAX_SLOTS, RECENT_ROWS};
 use propose_text::MAX_HISTORY_WORDS;
 use run::{MAX_DIMENSIONS, MAX_PLACES};
 use splitmix::SplitMix64;
+use std::slice::from_ref;
 
 #[derive(Clone, PartialEq, Eq, Hash)]
 pub struct Made {
@@ -238,7 +239,7 @@ fn lines_about_the_limit() -> Vec<Vec<u8>> {
     let row = word_line(&of_mixed(slots, 1).row_words());
     let rows = most + 3;
     vec![
-        [&lines[..rows], &[row.clone()]].concat().concat(),
+        [&lines[..rows], from_ref(&row)].concat().concat(),
         [&lines[..rows], &[row[..row.len() - 1].to_vec()]].concat().concat(),
         [&lines[..rows], &[b"0\n".to_vec()], &lines[rows..]].concat().concat(),
         lines[..rows].concat(),

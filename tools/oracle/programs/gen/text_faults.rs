@@ -6,6 +6,7 @@ use crate::run_models::{of_mixed, settings, unit};
 use crate::runs::Settings;
 use crate::texts::{Lines, Text, names_line, word_line};
 use propose_text::{CALL_NAMES, SETTINGS_NAMES, history_names};
+use std::slice::from_ref;
 
 /// A change of a line, its newline included.
 pub type Fault = fn(&mut Vec<u8>);
@@ -123,8 +124,8 @@ pub fn good() -> Text {
     calls.ask(7, &unit()).ask(8, &unit()).ask(9, &unit())
 }
 
-/// Three of another number of slots, one without rows, one without calls, and two whose settings
-/// are out of range.
+/// The good one, one without rows, one of two slots, one without calls, and two whose settings are
+/// out of range.
 fn originals() -> Vec<Text> {
     let first = good();
     let without_rows = Text::new(first.settings, &[]).ask(7, &choice(5)).ask(7, &unit());
@@ -171,7 +172,7 @@ pub fn names() -> Vec<Vec<u8>> {
     let at_place = |place: usize| {
         let lines = &lines;
         let with = move |name: &Vec<u8>, end: usize| {
-            [&lines[..place], &[name.clone()], &lines[end..]].concat().concat()
+            [&lines[..place], from_ref(name), &lines[end..]].concat().concat()
         };
         let names = &names;
         names
