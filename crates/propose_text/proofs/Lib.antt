@@ -1,0 +1,4 @@
+mod AnswerLine
+mod Bytes
+mod SlotNames
+mod Words
