@@ -1,0 +1,248 @@
+// One text from standard input, in pieces of any length, and its answers on standard output. What a call of the system reads or writes no
+// contract can say: all that is judged and written comes from `propose_text`, and these functions are tested.
+ghost use Prim.Native.Nat.{_+_, _≤_};
+ghost use lib.ListN.{length};
+use propose_text::Reader;
+use propose_text::Stage;
+use propose_text::Step;
+
+// Between two reads: the reader, how many bytes of a line are held, how many of the text are left, and whether to read on.
+struct Held {
+    reader: Reader,
+    have: usize,
+    left: u64,
+    more: bool,
+}
+
+// What the whole lines of the bytes held came to: how many bytes they were, and whether to read on.
+struct Done {
+    reader: Reader,
+    used: usize,
+    more: bool,
+}
+
+fn is_ended(stage: Stage) -> bool {
+    match stage {
+        Stage::SettingsNames => false,
+        Stage::Settings => false,
+        Stage::HistoryNames => false,
+        Stage::History => false,
+        Stage::Calls => false,
+        Stage::Ended => true,
+    }
+}
+
+// Writes these bytes; a failure is told. Whether they are written.
+fn put(bytes: &[u8]) -> bool {
+    if io::write_all(1, bytes) {
+        return true;
+    }
+    io::write_all(2, b"Standard output cannot be written.\n");
+    false
+}
+
+// Writes the first `len` of these bytes.
+fn put_first(bytes: [u8; 68], len: usize) -> bool {
+    if len > 68 {
+        return false;
+    }
+    put(&bytes[0..len])
+}
+
+// Writes the bytes of a step. Whether to read on: not after a failure, nor where the run has ended.
+fn told(t: Step) -> bool {
+    let bytes = t.bytes;
+    if !put_first(bytes, t.len) {
+        return false;
+    }
+    let reader = t.reader;
+    let stage = reader.stage;
+    !is_ended(stage)
+}
+
+// Every whole line of the first `end` bytes.
+fn lines(reader: Reader, buf: &[u8], end: usize, history: &mut [u64; 8192]) -> Done
+    requires { ⌜ end ≤ length (now buf) ⌝ }
+    ensures { λ r. ⌜ r .used ≤ end ⌝ }
+{
+    let mut now = reader;
+    let mut used = 0;
+    while used < end {
+        let e = bytes::scan::find(buf, used, end, b'\n');
+        if e == end {
+            return Done {
+                reader: now,
+                used,
+                more: true,
+            };
+        }
+        let t = propose_text::read_line(now, &buf[used..e], history);
+        now = t.reader;
+        used = e + 1;
+        if !told(t) {
+            return Done {
+                reader: now,
+                used,
+                more: false,
+            };
+        }
+    }
+    Done {
+        reader: now,
+        used,
+        more: true,
+    }
+}
+
+// Moves the bytes from `used` up to `have` to the front.
+fn shift(buf: &mut [u8], used: usize, have: usize)
+    requires { ⌜ (used ≤ have) × (have ≤ length (now buf)) ⌝ }
+{
+    let mut i = used;
+    while i < have {
+        buf[i - used] = buf[i];
+        i += 1;
+    }
+}
+
+// How many bytes to ask for: what the buffer has room for, and no more than the text has left.
+fn asked(room: usize, left: u64) -> usize
+    ensures { λ r. ⌜ (r ≤ room) × (r ≤ left) ⌝ }
+{
+    if (room as u64) < left { room } else { left as usize }
+}
+
+// One read: how many bytes it put at the start of buf, 0 at the end of the input; a failure is told.
+struct Filled {
+    n: usize,
+    failed: bool,
+}
+
+fn fill(buf: &mut [u8]) -> Filled
+    ensures { λ r. ⌜ r .n ≤ length (now (buf .entry)) ⌝ }
+{
+    let got = libc::read(0, buf);
+    if got < 0 {
+        io::write_all(2, b"Standard input cannot be read.\n");
+        return Filled { n: 0, failed: true };
+    }
+    let n = io::count(got, buf);
+    Filled { n, failed: false }
+}
+
+// What the bytes up to `full` come to, n of them new. A line that is longer than any table has ends the run.
+fn taken(reader: Reader, buf: &mut [u8], full: usize, left: u64, history: &mut [u64; 8192]) -> Held
+    requires { ⌜ full ≤ length (now buf) ⌝ }
+    ensures { λ r. ⌜ (r .have ≤ length (now (buf .entry))) × (r .left ≤ left) ⌝ }
+{
+    let done = lines(reader, buf, full, history);
+    let used = done.used;
+    let after = done.reader;
+    let have = full - used;
+    if !done.more {
+        return Held {
+            reader: after,
+            have: 0,
+            left,
+            more: false,
+        };
+    }
+    if have > propose_text::LONGEST {
+        told(propose_text::read_line(after, &buf[used..full], history));
+        return Held {
+            reader: after,
+            have: 0,
+            left,
+            more: false,
+        };
+    }
+    shift(buf, used, full);
+    Held {
+        reader: after,
+        have,
+        left,
+        more: true,
+    }
+}
+
+// One read, with the lines that it completes, or the end of the text.
+fn turn(reader: Reader, buf: &mut [u8], have: usize, left: u64, history: &mut [u64; 8192]) -> Held
+    requires { ⌜ have ≤ length (now buf) ⌝ }
+    ensures { λ r. ⌜ (r .have ≤ length (now (buf .entry))) × (r .left ≤ left) ⌝ }
+{
+    let end = have + asked(buf.len() - have, left);
+    let f = fill(&mut buf[have..end]);
+    let n = f.n;
+    if n > 0 {
+        return taken(reader, buf, have + n, left - n as u64, history);
+    }
+    if !f.failed {
+        told(propose_text::finish(reader, &buf[0..have]));
+    }
+    Held {
+        reader,
+        have,
+        left,
+        more: false,
+    }
+}
+
+// Reads the text to its end, or to the end of its run. How many of its bytes are not read.
+// A proved loop has to end, and nothing says that the input does: the turns are counted down from a number that no run uses up.
+fn all(buf: &mut [u8], limit: u64, history: &mut [u64; 8192]) -> u64
+    ensures { λ r. ⌜ r ≤ limit ⌝ }
+{
+    let mut h = Held {
+        reader: propose_text::start(),
+        have: 0,
+        left: limit,
+        more: true,
+    };
+    let mut turns = u64::MAX;
+    while turns > 0 {
+        let reader = h.reader;
+        h = turn(reader, buf, h.have, h.left, history);
+        if !h.more {
+            return h.left;
+        }
+        turns -= 1;
+    }
+    h.left
+}
+
+// Runs the text that the next `limit` bytes of standard input are, or those up to its end. How many of them are not read.
+pub fn run_text(limit: u64) -> u64
+    ensures { λ r. ⌜ r ≤ limit ⌝ }
+{
+    let names = propose_text::names_line();
+    if !put(&names) {
+        return limit;
+    }
+    let mut buf = io::large_buffer();
+    let mut history = [0u64; 8192];
+    all(&mut buf, limit, &mut history)
+}
+
+// Reads that many bytes into buf, again and again. How many there were not.
+fn pass(buf: &mut [u8], count: u64) -> u64
+    ensures { λ r. ⌜ r ≤ count ⌝ }
+{
+    let mut left = count;
+    while left > 0 {
+        let end = asked(buf.len(), left);
+        let f = fill(&mut buf[0..end]);
+        if f.n == 0 {
+            return left;
+        }
+        left -= f.n as u64;
+    }
+    left
+}
+
+// Passes over that many bytes of standard input. How many there were not.
+pub fn skip(count: u64) -> u64
+    ensures { λ r. ⌜ r ≤ count ⌝ }
+{
+    let mut buf = io::large_buffer();
+    pass(&mut buf, count)
+}
