@@ -109,7 +109,11 @@ fn shift(buf: &mut [u8], used: usize, have: usize)
 fn asked(room: usize, left: u64) -> usize
     ensures { λ r. ⌜ (r ≤ room) × (r ≤ left) ⌝ }
 {
-    if (room as u64) < left { room } else { left as usize }
+    if (room as u64) < left {
+        room
+    } else {
+        left as usize
+    }
 }
 
 // One read: how many bytes it put at the start of buf, 0 at the end of the input; a failure is told.

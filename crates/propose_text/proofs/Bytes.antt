@@ -1,10 +1,10 @@
 -- Laws of `sameBytes`. Assumes nothing.
-use mathlib.Core.Path.{_≡_, refl, sym, ap, _∙_}
-use mathlib.Core.Bool.{Bool, true, false, _&&_, and-assoc, and-false}
+use mathlib.Core.Path.{_≡_, refl, sym, ap, ap₂, _∙_}
+use mathlib.Core.Bool.{Bool, true, false, _&&_, and-assoc, and-false, false≢true}
 use mathlib.Core.List.{List, [], _∷_, _++_}
 use Prim.Native.Nat.{ℕ, suc, _≤_, _<_}
 use native.Mathlib.Omega.{arith}
-use borrow.Author.Tests.{eq-eqb, ne-eqb}
+use borrow.Author.Tests.{eq-eqb, ne-eqb, eqb-true}
 use lib.ListN.{length, take, drop, getD, length-append, take-append-drop}
 use lib.Seq.{drop-cons, length-take-le}
 use lib.Dec.{eqb}
@@ -44,3 +44,20 @@ same-start l c d h =
 
 pub too-short : (l c d : List ℕ) → length l < length c → sameBytes l (c ++ d) ≡ false
 too-short l c d h = differ l (c ++ d) (λ e. let n = length-append c d in omega arith)
+
+-- equal texts, and only they, are the same
+pub same-self : (a : List ℕ) → sameBytes a a ≡ true
+unfolding sameBytes
+same-self [] = refl
+same-self (x ∷ xs) = rw (eq-eqb x x refl) (same-self xs)
+
+pub same-equal : (a b : List ℕ) → sameBytes a b ≡ true → a ≡ b
+unfolding sameBytes
+same-equal [] [] h = refl
+same-equal [] (y ∷ ys) h = absurd (false≢true h)
+same-equal (x ∷ xs) [] h = absurd (false≢true h)
+same-equal (x ∷ xs) (y ∷ ys) h = go (eqb x y) refl h (same-equal xs ys)
+  where
+    go : (t : Bool) → eqb x y ≡ t → (t && sameBytes xs ys) ≡ true → (sameBytes xs ys ≡ true → xs ≡ ys) → x ∷ xs ≡ y ∷ ys
+    go true e k f = ap₂ (λ (u : ℕ) (l : List ℕ). u ∷ l) (eqb-true x y e) (f k)
+    go false e k f = absurd (false≢true k)

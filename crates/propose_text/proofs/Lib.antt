@@ -1,4 +1,9 @@
 mod AnswerLine
 mod Bytes
+mod Cut
+mod LineWords
+mod LongLines
 mod SlotNames
+mod Tables
+mod TextLaws
 mod Words

@@ -1,3 +1,5 @@
+pub mod Laws
 pub mod Lines
 pub mod Names
 pub mod Steps
+pub mod Texts

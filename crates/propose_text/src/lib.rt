@@ -1,5 +1,6 @@
 // The text of `propose`: three tables, read line by line, and the lines written for them.
 pub mod answers;
+pub mod laws;
 pub mod lines;
 pub mod names;
 pub mod steps;
