@@ -7,13 +7,10 @@ ghost use lib.ListN.{length};
 ghost use Rattle.arith.specs.Lists.{filled};
 ghost use Rattle.history.specs.Mapping.{none, firstEntry, entriesOf, isMapped, consumedOf, matchesOf, mappedOf, numberOf, mappingOf};
 ghost use Rattle.history.specs.MappingParts.{betterOf};
-ghost use Rattle.history.specs.Rows.{widthOf, rowAt};
-use crate::DimensionInfo;
+ghost use Rattle.history_rows.specs.Rows.{widthOf, rowAt};
 use crate::Mapped;
 use crate::Mapping;
-use crate::dimensions;
-use crate::slots;
-use crate::tests;
+use dimensions::DimensionInfo;
 use distribution::Distribution;
 use distribution::Read;
 
@@ -43,7 +40,7 @@ fn matches(mapping: [Mapped; 20], j: usize, d: Distribution, slot: &[u64]) -> bo
     requires { ⌜ (j ≤ 20) × (length (now slot) ≡ 8) ⌝ }
     ensures { λ r. ⌜ r ≡ matchesOf mapping j d (now (slot .entry)) ⌝ }
 {
-    if !slots::reads_equal(Read::WellFormed(d), slots::read(slot)) {
+    if !history_rows::reads_equal(Read::WellFormed(d), history_rows::read(slot)) {
         return false;
     }
     !consumed(mapping, j, slot[0])
@@ -61,7 +58,7 @@ fn better(mapping: [Mapped; 20], j: usize, d: Distribution, slot: &[u64], best: 
     requires { ⌜ (j ≤ 20) × (length (now slot) ≡ 8) ⌝ }
     ensures { λ r. ⌜ r ≡ betterOf (matchesOf mapping j d) (now (slot .entry)) best ⌝ }
 {
-    if !slots::is_present(slot) {
+    if !history_rows::is_present(slot) {
         return best;
     }
     if !matches(mapping, j, d, slot) {
@@ -139,7 +136,7 @@ pub(crate) fn number(slots: usize, dims: [DimensionInfo; 20], k: usize, h: &[u64
     if !dimensions::dimensions_ok(dims, k) {
         return 11;
     }
-    tests::refusal(slots, h)
+    history_rows::refusal(slots, h)
 }
 
 // The ids of k dimensions, from the first recent row of a history.
@@ -161,8 +158,9 @@ pub fn establish_param_mapping(
             }; 20],
         };
     }
-    let start = tests::older(slots, h);
-    let m = tests::recent_rows(slots, h);
+    let recent = history_rows::recent_part(slots, h);
+    let start = recent.start;
+    let m = recent.rows;
     let ids = recent_mapping(slots, dims, k, m, &h[start..]);
     Mapping { number: 0, ids }
 }

@@ -33,13 +33,14 @@ use Rattle.gp_model.specs.Predict.{countsFit}
 use Rattle.gp_model.specs.Search.{advanceOf, optimizeAcquisitionOf, searchDomain}
 use Rattle.gp_model.specs.Scaling.{fromNormalizedOf, toNormalizedOf}
 use Rattle.gp_model.specs.Statistics.{allWithin, lengthscaleOf, meanOf, varianceOf}
-use Rattle.history.specs.declared.DimensionInfo.{DimensionInfo}
-use Rattle.history.specs.Dimensions.{dimensionOf, dimensionOk, dimensionsOk, columnsOf}
+use Rattle.dimensions.specs.declared.DimensionInfo.{DimensionInfo}
+use Rattle.dimensions.specs.Dimensions.{dimensionOf, dimensionOk, dimensionsOk, columnsOf}
 use Rattle.history.specs.Mapping.{insertById, entriesOf, firstEntry, consumedOf, matchesOf, mappedOf, numberOf}
-use Rattle.history.specs.Rows.{wholeRows, rowCount, recentCount, recentOf}
-use Rattle.history.specs.Tests.{rowOk, slotRead, slotOk, agreeing, slotsOk, idsOnce, rowsAgreeing, recentTests, refusalOf}
-use Rattle.history.specs.Training.{slotWith, entryOf, columnOf, keptOf, trainsOf, coversOf, xOf, yOf, trainingOf, recentTraining}
-use Rattle.history.specs.View.{viewOf}
+use Rattle.history_rows.specs.Rows.{wholeRows, rowCount, recentCount, recentOf}
+use Rattle.history_rows.specs.Tests.{rowOk, slotRead, slotOk, agreeing, slotsOk, idsOnce, rowsAgreeing, recentTests, refusalOf}
+use Rattle.history_rows.specs.Slots.{slotWith}
+use Rattle.history.specs.Training.{entryOf, columnOf, keptOf, trainsOf, coversOf, xOf, yOf, trainingOf, recentTraining}
+use Rattle.history_view.specs.View.{viewOf}
 use Rattle.settings.specs.declared.Settings.{Settings}
 use Rattle.settings.specs.Settings.{settingsOk}
 use Rattle.proposal.specs.declared.Proposal.{Proposal}

@@ -41,11 +41,11 @@ use Rattle.gp_model.specs.Scaling.{fromNormalizedOf}
 use Rattle.gp_model.specs.Search.{pointOf, optimizeAcquisitionOf}
 use Rattle.gp_model.specs.Statistics.{lengthscalesOf}
 use Rattle.gp_model.proofs.Earliest.{search-earliest}
-use Rattle.history.specs.declared.DimensionInfo.{DimensionInfo}
+use Rattle.dimensions.specs.declared.DimensionInfo.{DimensionInfo}
 use Rattle.history.specs.declared.Training.{Training}
-use Rattle.history.specs.declared.View.{View}
-use Rattle.history.specs.Dimensions.{dimensionAt, continuousOf, dimensionOk, columnsOf}
-use Rattle.history.proofs.Values.{Column, floats-fit, bounds-shape, shape, ends}
+use Rattle.history_view.specs.declared.View.{View}
+use Rattle.dimensions.specs.Dimensions.{dimensionAt, continuousOf, dimensionOk, columnsOf}
+use Rattle.history_view.proofs.Values.{Column, floats-fit, bounds-shape, shape, ends}
 use Rattle.settings.specs.declared.Settings.{Settings}
 use Rattle.proposal.specs.declared.Point.{Point}
 use Rattle.proposal.specs.declared.Stored.{Stored}

@@ -10,8 +10,8 @@ use Rattle.common.specs.declared.RandomDraw.{RandomDraw}
 use Rattle.common.specs.Decode.{fromInternalOf}
 use Rattle.common.specs.Random.{sampleRandomOf}
 use Rattle.gp_model.specs.Scaling.{fromNormalizedOf}
-use Rattle.history.specs.declared.DimensionInfo.{DimensionInfo}
-use Rattle.history.specs.Dimensions.{dimensionAt, continuousOf, columnsOf}
+use Rattle.dimensions.specs.declared.DimensionInfo.{DimensionInfo}
+use Rattle.dimensions.specs.Dimensions.{dimensionAt, continuousOf, columnsOf}
 use Rattle.proposal.specs.declared.Stored.{Stored}
 use Rattle.proposal.specs.declared.Values.{Values}
 

@@ -14,7 +14,7 @@ use Rattle.distribution.specs.declared.Distribution.{Distribution}
 use Rattle.distribution.specs.declared.ParamValue.{ParamValue}
 use Rattle.common.specs.Decode.{fromInternalOf}
 use Rattle.common.specs.Random.{sampleRandomOf}
-use Rattle.history.specs.Dimensions.{dimensionOf}
+use Rattle.dimensions.specs.Dimensions.{dimensionOf}
 use Rattle.history.specs.Mapping.{none, mappingOf}
 use Rattle.acquisition.specs.Improvement.{expectedImprovementOf}
 use Rattle.acquisition.specs.Normal.{normCdfOf}

@@ -18,10 +18,10 @@ use Rattle.distribution.specs.declared.Distribution.{Distribution}
 use Rattle.distribution.specs.declared.Read.{Read}
 use Rattle.distribution.specs.Words.{readOf}
 use Rattle.distribution.proofs.Facts.{parts}
-use Rattle.history.specs.declared.DimensionInfo.{DimensionInfo}
-use Rattle.history.specs.Dimensions.{dimensionAt, continuousOf, columnsOf}
-use Rattle.history.specs.Tests.{refusalOf}
-use Rattle.history.specs.View.{viewOf}
+use Rattle.dimensions.specs.declared.DimensionInfo.{DimensionInfo}
+use Rattle.dimensions.specs.Dimensions.{dimensionAt, continuousOf, columnsOf}
+use Rattle.history_rows.specs.Tests.{refusalOf}
+use Rattle.history_view.specs.View.{viewOf}
 use Rattle.proposal.specs.declared.Proposal.{Proposal}
 use Rattle.proposal.specs.Proposal.{computeCandidateOf}
 use Rattle.proposal.specs.Values.{emptyStored, decodeOf}

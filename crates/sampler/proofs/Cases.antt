@@ -12,12 +12,12 @@ use Rattle.distribution.specs.Shape.{shapeOf, intShape, intStep, categoricalSha
 use Rattle.distribution.specs.Words.{readOf, checkedOf, intRead, categoricalRead}
 use Rattle.common.specs.Bounds.{boundsOf, endsOf}
 use Rattle.common.specs.Random.{sampleRandomOf, randomOf, intRandom, linearIntRandom, categoricalRandom, fromWhole}
-use Rattle.history.specs.Dimensions.{dimensionOk, dimensionsOk, columnsOf}
+use Rattle.dimensions.specs.Dimensions.{dimensionOk, dimensionsOk, columnsOf}
 use Rattle.history.specs.Mapping.{numberOf}
-use Rattle.history.specs.Rows.{wholeRows, rowCount, recentCount, recentOf}
-use Rattle.history.specs.Tests.{recentTests, refusalOf}
+use Rattle.history_rows.specs.Rows.{wholeRows, rowCount, recentCount, recentOf}
+use Rattle.history_rows.specs.Tests.{recentTests, refusalOf}
 use Rattle.history.specs.Training.{trainingOf, recentTraining}
-use Rattle.history.specs.View.{viewOf}
+use Rattle.history_view.specs.View.{viewOf}
 use Rattle.settings.specs.declared.Settings.{Settings}
 use Rattle.settings.specs.Settings.{settingsOk}
 use Rattle.proposal.specs.Proposal.{candidateOf, candidateNumber, computeCandidateOf}

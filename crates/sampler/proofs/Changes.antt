@@ -22,9 +22,9 @@ use Rattle.distribution.specs.Shape.{shapeOf}
 use Rattle.common.specs.declared.InternalBounds.{InternalBounds}
 use Rattle.common.specs.Bounds.{boundsOf}
 use Rattle.common.proofs.EndLaws.{HasEnds, bounds, choice-bounds}
-use Rattle.history.specs.declared.DimensionInfo.{DimensionInfo}
-use Rattle.history.specs.Dimensions.{boundsAre, sameBits, withBounds, noDimension, dimensionAt, dimensionOf, dimensionOk, dimensionsOk}
-use Rattle.history.proofs.Values.{floats-fit}
+use Rattle.dimensions.specs.declared.DimensionInfo.{DimensionInfo}
+use Rattle.dimensions.specs.Dimensions.{boundsAre, sameBits, withBounds, noDimension, dimensionAt, dimensionOf, dimensionOk, dimensionsOk}
+use Rattle.history_view.proofs.Values.{floats-fit}
 use Rattle.proposal.proofs.Ranges.{Formed}
 use Rattle.sampler.specs.declared.Place.{Place}
 use Rattle.sampler.specs.declared.Sampler.{Sampler}

@@ -5,8 +5,8 @@ use mathlib.Core.Bool.{true, _&&_}
 use lib.Dec.{T}
 use Rattle.arith.proofs.Tests.{taken}
 use Rattle.distribution.proofs.Facts.{parts}
-use Rattle.history.specs.Dimensions.{dimensionsOk}
-use Rattle.history.proofs.Usable.{dimensions-ok}
+use Rattle.dimensions.specs.Dimensions.{dimensionsOk}
+use Rattle.dimensions.proofs.Ok.{dimensions-ok}
 use Rattle.sampler.specs.declared.Sampler.{Sampler}
 use Rattle.sampler.specs.State.{samplerOk}
 

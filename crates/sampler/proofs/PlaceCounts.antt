@@ -16,14 +16,14 @@ use Rattle.distribution.specs.declared.Distribution.{Distribution}
 use Rattle.distribution.specs.declared.Read.{Read}
 use Rattle.distribution.specs.Words.{readOf}
 use Rattle.distribution.proofs.Facts.{parts, asked}
-use Rattle.history.specs.declared.DimensionInfo.{DimensionInfo}
-use Rattle.history.specs.declared.View.{View}
-use Rattle.history.specs.Dimensions.{dimensionsOk}
+use Rattle.dimensions.specs.declared.DimensionInfo.{DimensionInfo}
+use Rattle.history_view.specs.declared.View.{View}
+use Rattle.dimensions.specs.Dimensions.{dimensionsOk}
 use Rattle.history.specs.Mapping.{numberOf}
-use Rattle.history.specs.Rows.{wholeRows}
-use Rattle.history.specs.Tests.{rowOk, slotsOk, idsOnce, rowsAgreeing, recentTests, refusalOf}
-use Rattle.history.specs.View.{viewOf}
-use Rattle.history.proofs.Passed.{everyRecent}
+use Rattle.history_rows.specs.Rows.{wholeRows}
+use Rattle.history_rows.specs.Tests.{rowOk, slotsOk, idsOnce, rowsAgreeing, recentTests, refusalOf}
+use Rattle.history_view.specs.View.{viewOf}
+use Rattle.history_rows.proofs.Passed.{everyRecent}
 use Rattle.settings.specs.declared.Settings.{Settings}
 use Rattle.settings.specs.Settings.{settingsOk}
 use Rattle.proposal.specs.Points.{pointFor}

@@ -22,8 +22,8 @@ use Rattle.distribution.specs.Shape.{shapeOf}
 use Rattle.distribution.specs.Words.{readOf}
 use Rattle.common.specs.Random.{sampleRandomOf}
 use Rattle.common.proofs.Moves.{random-moves}
-use Rattle.history.specs.Dimensions.{dimensionAt, dimensionsOk}
-use Rattle.history.specs.Tests.{refusalOf}
+use Rattle.dimensions.specs.Dimensions.{dimensionAt, dimensionsOk}
+use Rattle.history_rows.specs.Tests.{refusalOf}
 use Rattle.settings.specs.declared.Settings.{Settings}
 use Rattle.settings.specs.Settings.{settingsOk}
 use Rattle.proposal.specs.declared.Proposal.{Proposal}

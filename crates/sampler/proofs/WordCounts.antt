@@ -15,10 +15,10 @@ use Rattle.distribution.specs.declared.Read.{Read}
 use Rattle.distribution.specs.RoundTrip.{Held}
 use Rattle.distribution.specs.Words.{readOf}
 use Rattle.distribution.proofs.Facts.{parts}
-use Rattle.history.specs.Dimensions.{dimensionAt}
-use Rattle.history.specs.Tests.{refusalOf}
-use Rattle.history.specs.View.{viewOf}
-use Rattle.history.proofs.Values.{floats-fit}
+use Rattle.dimensions.specs.Dimensions.{dimensionAt}
+use Rattle.history_rows.specs.Tests.{refusalOf}
+use Rattle.history_view.specs.View.{viewOf}
+use Rattle.history_view.proofs.Values.{floats-fit}
 use Rattle.proposal.specs.Points.{fitFor}
 use Rattle.proposal.specs.Proposal.{computeCandidateOf}
 use Rattle.proposal.proofs.WordCount.{Drawable, random-word, compute-words}

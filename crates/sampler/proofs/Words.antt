@@ -11,7 +11,7 @@ use Rattle.distribution.specs.declared.Read.{Read}
 use Rattle.distribution.specs.Words.{readOf}
 use Rattle.common.specs.Random.{sampleRandomOf}
 use Rattle.common.proofs.Moves.{random-moves}
-use Rattle.history.specs.Tests.{refusalOf}
+use Rattle.history_rows.specs.Tests.{refusalOf}
 use Rattle.proposal.specs.declared.Proposal.{Proposal}
 use Rattle.proposal.specs.Proposal.{computeCandidateOf}
 use Rattle.proposal.proofs.Moving.{compute-moves}

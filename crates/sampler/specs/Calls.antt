@@ -10,8 +10,8 @@ use Rattle.distribution.specs.declared.Read.{Read}
 use Rattle.distribution.specs.Words.{readOf}
 use Rattle.common.specs.declared.RandomDraw.{RandomDraw}
 use Rattle.common.specs.Random.{sampleRandomOf}
-use Rattle.history.specs.Dimensions.{dimensionOf}
-use Rattle.history.specs.Tests.{refusalOf}
+use Rattle.dimensions.specs.Dimensions.{dimensionOf}
+use Rattle.history_rows.specs.Tests.{refusalOf}
 use Rattle.proposal.specs.declared.Proposal.{Proposal}
 use Rattle.proposal.specs.Proposal.{computeCandidateOf}
 use Rattle.sampler.specs.declared.Place.{Place}

@@ -13,9 +13,9 @@ use Rattle.distribution.specs.RoundTrip.{Held}
 use Rattle.distribution.specs.Shape.{shapeOf}
 use Rattle.distribution.specs.Words.{readOf}
 use Rattle.common.specs.Random.{sampleRandomOf}
-use Rattle.history.specs.Agree.{Agree}
-use Rattle.history.specs.Dimensions.{dimensionAt}
-use Rattle.history.specs.Tests.{refusalOf}
+use Rattle.history_view.specs.Agree.{Agree}
+use Rattle.dimensions.specs.Dimensions.{dimensionAt}
+use Rattle.history_rows.specs.Tests.{refusalOf}
 use Rattle.settings.specs.declared.Settings.{Settings}
 use Rattle.settings.specs.Settings.{settingsOk}
 use Rattle.proposal.specs.Proposal.{computeCandidateOf}

@@ -20,7 +20,7 @@ fn asked(s: Sampler, d: Distribution, trial: u64, h: &[u64]) -> Sampled
     ensures { λ r. ⌜ r ≡ askedOf s (Read.WellFormed d) trial (now (h .entry)) ⌝ }
 {
     let settings = s.settings;
-    let number = history::refusal(settings.slots as usize, h);
+    let number = history_rows::refusal(settings.slots as usize, h);
     if number != 0 {
         return states::refused(s, number);
     }

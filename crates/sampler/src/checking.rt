@@ -6,16 +6,16 @@ ghost use lib.Dec.{leb};
 ghost use lib.ListN.{getD};
 ghost use lib.Signed.{leZ};
 ghost use Rattle.arith.specs.Lists.{every};
-ghost use Rattle.history.specs.Dimensions.{dimensionAt};
+ghost use Rattle.dimensions.specs.Dimensions.{dimensionAt};
 ghost use Rattle.proposal.specs.Values.{emptyStored};
 ghost use Rattle.sampler.specs.State.{placeAt, taken, holds, storedOk, placeOk, trialsOnce, samplerOk};
 use crate::Place;
 use crate::Sampler;
 use crate::places;
+use dimensions::DimensionInfo;
 use distribution::Distribution;
 use distribution::IntDistribution;
 use distribution::ParamValue;
-use history::DimensionInfo;
 use proposal::Stored;
 
 // Whether z is from lo to hi.
@@ -156,7 +156,7 @@ pub(crate) fn sampler_ok(s: Sampler) -> bool
     if s.word == 0 {
         return false;
     }
-    if !history::dimensions_ok(dims, s.n_dims) {
+    if !dimensions::dimensions_ok(dims, s.n_dims) {
         return false;
     }
     if !phase_ok(s.active, s.n_dims) {

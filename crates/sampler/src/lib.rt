@@ -9,8 +9,8 @@ pub mod states;
 
 pub use calls::close;
 pub use calls::sample;
+use dimensions::DimensionInfo;
 use distribution::ParamValue;
-use history::DimensionInfo;
 pub use making::build;
 pub use places::taken_count;
 use proposal::Stored;

@@ -4,10 +4,10 @@ ghost use Rattle.sampler.specs.State.{freshOf, emptyPlace, makeOf};
 use crate::Made;
 use crate::Place;
 use crate::Sampler;
+use dimensions::DimensionInfo;
 use distribution::CategoricalDistribution;
 use distribution::Distribution;
 use distribution::ParamValue;
-use history::DimensionInfo;
 use proposal::Stored;
 use settings::Settings;
 

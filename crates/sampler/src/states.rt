@@ -51,7 +51,7 @@ pub(crate) fn with_dimension(mut s: Sampler, trial: u64, d: Distribution) -> Sam
 {
     let k = s.n_dims;
     s.discovery_trial_id = trial;
-    s.dimensions[k] = history::dimension(d);
+    s.dimensions[k] = dimensions::dimension(d);
     s.n_dims = k + 1;
     s
 }

@@ -14,10 +14,10 @@ use Rattle.common.specs.Bounds.{boundsOf, endsOf}
 use Rattle.common.specs.Decode.{fromInternalOf, decodedOf}
 use Rattle.common.specs.Grid.{intGrid}
 use Rattle.common.specs.Random.{sampleRandomOf, randomOf, intRandom, linearIntRandom, categoricalRandom, fromWhole}
-use Rattle.history.specs.Dimensions.{dimensionOk, dimensionsOk}
+use Rattle.dimensions.specs.Dimensions.{dimensionOk, dimensionsOk}
 use Rattle.history.specs.Mapping.{insertById, entriesOf, firstEntry, consumedOf, matchesOf, mappedOf, numberOf, mappingOf}
-use Rattle.history.specs.Rows.{wholeRows, rowCount, recentCount, recentOf}
-use Rattle.history.specs.Tests.{rowOk, slotRead, slotOk, agreeing, slotsOk, idsOnce, rowsAgreeing, recentTests, refusalOf}
+use Rattle.history_rows.specs.Rows.{wholeRows, rowCount, recentCount, recentOf}
+use Rattle.history_rows.specs.Tests.{rowOk, slotRead, slotOk, agreeing, slotsOk, idsOnce, rowsAgreeing, recentTests, refusalOf}
 use Rattle.acquisition.specs.Improvement.{expectedImprovementOf}
 use Rattle.acquisition.specs.Normal.{normCdfOf}
 use Rattle.rng_util.specs.Draws.{wholeDrawOf, wholeOf as wholeAt, rangeOk}

@@ -4,7 +4,7 @@ use mathlib.Core.Bool.{Bool, not, _&&_, _||_}
 use lib.Dec.{leb}
 use borrow.Author.Tests.{lt-leb, le-leb, not-true, not-false}
 use Rattle.arith.specs.Lists.{every}
-use Rattle.history.specs.Dimensions.{dimensionAt}
+use Rattle.dimensions.specs.Dimensions.{dimensionAt}
 use Rattle.sampler.specs.State.{taken, storedOk, storedAt, placeOk}
 use borrow.Author.Needs.{needs}
 use Rattle.sampler.proofs.checking.place_ok.Statement.{statement}

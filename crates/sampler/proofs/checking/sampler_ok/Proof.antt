@@ -5,8 +5,8 @@ use lib.Dec.{eqb}
 use borrow.Author.Tests.{ne-eqb, eq-eqb, not-true, not-false}
 use Rattle.arith.proofs.Tests.{taken}
 use Rattle.arith.specs.Lists.{every}
-use Rattle.history.specs.Dimensions.{dimensionsOk}
-use Rattle.history.proofs.Usable.{dimensions-ok}
+use Rattle.dimensions.specs.Dimensions.{dimensionsOk}
+use Rattle.dimensions.proofs.Ok.{dimensions-ok}
 use Rattle.settings.specs.Settings.{settingsOk}
 use Rattle.sampler.specs.State.{placeAt, placeOk, trialsOnce, samplerOk}
 use borrow.Author.Needs.{needs}

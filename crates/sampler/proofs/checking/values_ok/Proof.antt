@@ -8,7 +8,7 @@ use lib.ListN.{length, getD}
 use Rattle.arith.specs.Lists.{every}
 use Rattle.arith.proofs.Lists.{every-not}
 use borrow.Author.Tests.{not-true, not-false}
-use Rattle.history.specs.Dimensions.{dimensionAt}
+use Rattle.dimensions.specs.Dimensions.{dimensionAt}
 use Rattle.proposal.specs.declared.Stored.{Stored}
 use Rattle.proposal.specs.Values.{emptyStored}
 use Rattle.sampler.specs.State.{storedOk}
