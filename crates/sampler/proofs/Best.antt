@@ -26,13 +26,13 @@ use Rattle.proposal.specs.declared.Proposal.{Proposal}
 use Rattle.proposal.specs.Proposal.{computeCandidateOf}
 use Rattle.proposal.specs.Values.{emptyStored, decodeOf}
 use Rattle.proposal.proofs.Decoded.{Decodes, StoresEarliest, stores-earliest}
-use Rattle.sampler.specs.declared.Place.{Place}
+use Rattle.sampler_state.specs.declared.Place.{Place}
 use Rattle.sampler.specs.declared.Sampled.{Sampled}
-use Rattle.sampler.specs.declared.Sampler.{Sampler}
+use Rattle.sampler_state.specs.declared.Sampler.{Sampler}
 use Rattle.sampler.specs.Calls.{refusedOf, withWord, withPlace, activated, unlessRefused, storedOf, newTrialOf, nextOf, activeOf, discoverOf, servedOf, askedOf, sampleOf}
 use Rattle.sampler.specs.NewTrials.{pastDiscovery, newTrial, servedHistory, hasModel, fitMade, fitAnswer, continuous, pointDrawn, Stores, StoresBest, BestStored}
 use Rattle.sampler.specs.Runs.{Asked, asks, closes, Call, callOf}
-use Rattle.sampler.specs.State.{emptyPlace, placeAt, taken as isTaken, holds, trialPlace, freePlace, storedAt, samplerOk}
+use Rattle.sampler_state.specs.State.{emptyPlace, placeAt, taken as isTaken, holds, trialPlace, freePlace, storedAt, samplerOk}
 use Rattle.sampler.proofs.PlaceCounts.{by-test}
 
 -- ---- a trial's place, written

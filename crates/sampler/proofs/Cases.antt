@@ -23,9 +23,9 @@ use Rattle.settings.specs.Settings.{settingsOk}
 use Rattle.proposal.specs.Proposal.{candidateOf, candidateNumber, computeCandidateOf}
 use Rattle.proposal.specs.Values.{stepOf, walkOf}
 use Rattle.sampler.specs.declared.Sampled.{Sampled}
-use Rattle.sampler.specs.declared.Sampler.{Sampler}
+use Rattle.sampler_state.specs.declared.Sampler.{Sampler}
 use Rattle.sampler.specs.Calls.{withWord, discoverOf, nextOf, newTrialOf, activeOf, servedOf, sampleOf, closeOf}
-use Rattle.sampler.specs.State.{freshOf, trialPlace, freePlace, takenCount, placeOk, trialsOnce, samplerOk}
+use Rattle.sampler_state.specs.State.{freshOf, trialPlace, freePlace, takenCount, placeOk, trialsOnce, samplerOk}
 
 -- start-up 10, no candidates, no noise, seed 1, one slot
 abbrev fresh : Sampler

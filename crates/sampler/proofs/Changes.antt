@@ -26,11 +26,11 @@ use Rattle.dimensions.specs.declared.DimensionInfo.{DimensionInfo}
 use Rattle.dimensions.specs.Dimensions.{boundsAre, sameBits, withBounds, noDimension, dimensionAt, dimensionOf, dimensionOk, dimensionsOk}
 use Rattle.history_view.proofs.Values.{floats-fit}
 use Rattle.proposal.proofs.Ranges.{Formed}
-use Rattle.sampler.specs.declared.Place.{Place}
-use Rattle.sampler.specs.declared.Sampler.{Sampler}
+use Rattle.sampler_state.specs.declared.Place.{Place}
+use Rattle.sampler_state.specs.declared.Sampler.{Sampler}
 use Rattle.sampler.specs.Calls.{withWord, withPlace, activated, withDimension}
 use Rattle.sampler.specs.Laws.{Typed}
-use Rattle.sampler.specs.State.{emptyPlace, placeAt, taken, holds, storedOk, storedAt, placeOk}
+use Rattle.sampler_state.specs.State.{emptyPlace, placeAt, taken, holds, storedOk, storedAt, placeOk}
 use Rattle.sampler.proofs.Parts.{Once, Ok, Well, formed}
 
 -- two places are one or not

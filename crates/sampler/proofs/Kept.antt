@@ -12,12 +12,12 @@ use Rattle.history_rows.specs.Tests.{refusalOf}
 use Rattle.settings.specs.declared.Settings.{Settings}
 use Rattle.proposal.specs.declared.Proposal.{Proposal}
 use Rattle.proposal.specs.Proposal.{computeCandidateOf}
-use Rattle.sampler.specs.declared.Place.{Place}
+use Rattle.sampler_state.specs.declared.Place.{Place}
 use Rattle.sampler.specs.declared.Sampled.{Sampled}
-use Rattle.sampler.specs.declared.Sampler.{Sampler}
+use Rattle.sampler_state.specs.declared.Sampler.{Sampler}
 use Rattle.sampler.specs.Calls.{refusedOf, withWord, withPlace, withDimension, activated, unlessRefused, discoverOf, nextOf, storedOf, newTrialOf, activeOf, servedOf, askedOf, sampleOf, closeOf}
 use Rattle.sampler.specs.Runs.{asks, closes, Call, callOf}
-use Rattle.sampler.specs.State.{placeAt, trialPlace, freePlace, samplerOk}
+use Rattle.sampler_state.specs.State.{placeAt, trialPlace, freePlace, samplerOk}
 
 -- a property that no change of a field touches
 pub record Lasting (P : Sampler → Type 0) : Type 0 where

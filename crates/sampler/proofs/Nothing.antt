@@ -34,10 +34,10 @@ use Rattle.proposal.specs.Proposal.{candidateNumber, computeCandidateOf}
 use Rattle.proposal.specs.Values.{emptyStored}
 use Rattle.proposal.proofs.Numbers.{by-history, accepted-is}
 use Rattle.proposal.proofs.Ranges.{InRange, fit-number, random-ranged, candidate-number, candidate-ranged}
-use Rattle.sampler.specs.declared.Sampler.{Sampler}
+use Rattle.sampler_state.specs.declared.Sampler.{Sampler}
 use Rattle.sampler.specs.Laws.{NothingRefused}
 use Rattle.sampler.specs.NewTrials.{servedHistory, fitMade, fitAnswer}
-use Rattle.sampler.specs.State.{storedOk}
+use Rattle.sampler_state.specs.State.{storedOk}
 use Rattle.sampler.proofs.Parts.{Well, well, nonzero, formed}
 
 -- ---- a value in range is one that a place may hold

@@ -17,10 +17,10 @@ use Rattle.dimensions.specs.Dimensions.{dimensionAt, dimensionsOk}
 use Rattle.dimensions.proofs.Ok.{dimensions-ok}
 use Rattle.settings.specs.Settings.{settingsOk}
 use Rattle.proposal.proofs.Ranges.{Formed}
-use Rattle.sampler.specs.declared.Place.{Place}
-use Rattle.sampler.specs.declared.Sampler.{Sampler}
+use Rattle.sampler_state.specs.declared.Place.{Place}
+use Rattle.sampler_state.specs.declared.Sampler.{Sampler}
 use Rattle.sampler.specs.Laws.{Typed}
-use Rattle.sampler.specs.State.{placeAt, taken, holds, placeOk, trialsOnce, samplerOk}
+use Rattle.sampler_state.specs.State.{placeAt, taken, holds, placeOk, trialsOnce, samplerOk}
 
 -- ---- no trial has two places
 

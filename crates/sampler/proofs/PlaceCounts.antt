@@ -28,14 +28,14 @@ use Rattle.settings.specs.declared.Settings.{Settings}
 use Rattle.settings.specs.Settings.{settingsOk}
 use Rattle.proposal.specs.Points.{pointFor}
 use Rattle.proposal.specs.Proposal.{fromPoint, atRandom, candidateOf, candidateNumber, refusedOf as refusedProposal, computeCandidateOf}
-use Rattle.sampler.specs.declared.Place.{Place}
+use Rattle.sampler_state.specs.declared.Place.{Place}
 use Rattle.sampler.specs.declared.Sampled.{Sampled}
-use Rattle.sampler.specs.declared.Sampler.{Sampler}
+use Rattle.sampler_state.specs.declared.Sampler.{Sampler}
 use Rattle.sampler.specs.Calls.{refusedOf, activated, unlessRefused, discoverOf, nextOf, storedOf, newTrialOf, activeOf, servedOf, askedOf, sampleOf, closeOf}
 use Rattle.sampler.specs.Laws.{PlacesCounted}
 use Rattle.sampler.specs.NewTrials.{pastDiscovery, newTrial}
 use Rattle.sampler.specs.Runs.{Asked, asks, callOf}
-use Rattle.sampler.specs.State.{emptyPlace, placeAt, taken, holds, trialPlace, freePlace, takenCount, placeOk, samplerOk}
+use Rattle.sampler_state.specs.State.{emptyPlace, placeAt, taken, holds, trialPlace, freePlace, takenCount, placeOk, samplerOk}
 
 -- ---- the places of a sampler
 

@@ -22,10 +22,10 @@ use Rattle.settings.specs.Settings.{settingsOk}
 use Rattle.proposal.specs.declared.Proposal.{Proposal}
 use Rattle.proposal.specs.Proposal.{candidateOf, candidateNumber, refusedOf as refusedProposal, computeCandidateOf}
 use Rattle.sampler.specs.declared.Sampled.{Sampled}
-use Rattle.sampler.specs.declared.Sampler.{Sampler}
+use Rattle.sampler_state.specs.declared.Sampler.{Sampler}
 use Rattle.sampler.specs.Calls.{refusedOf, activated, unlessRefused, discoverOf, nextOf, storedOf, newTrialOf, activeOf, servedOf, askedOf, sampleOf}
 use Rattle.sampler.specs.Runs.{Asked, asks, closes, Call, callOf, answerOf, answersOf, endOf, Alike, alike-none, alike-asks, alike-closes}
-use Rattle.sampler.specs.State.{trialPlace, freePlace, samplerOk}
+use Rattle.sampler_state.specs.State.{trialPlace, freePlace, samplerOk}
 use Rattle.sampler.proofs.Kept.{settings-kept}
 
 -- ---- one call with two histories that agree

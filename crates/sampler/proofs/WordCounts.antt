@@ -23,12 +23,12 @@ use Rattle.proposal.specs.Points.{fitFor}
 use Rattle.proposal.specs.Proposal.{computeCandidateOf}
 use Rattle.proposal.proofs.WordCount.{Drawable, random-word, compute-words}
 use Rattle.sampler.specs.declared.Sampled.{Sampled}
-use Rattle.sampler.specs.declared.Sampler.{Sampler}
+use Rattle.sampler_state.specs.declared.Sampler.{Sampler}
 use Rattle.sampler.specs.Calls.{activated, unlessRefused, discoverOf, nextOf, newTrialOf, activeOf, servedOf, askedOf, sampleOf, closeOf}
 use Rattle.sampler.specs.Laws.{Typed, WordsDrawn, storedNext, wordsTaken}
 use Rattle.sampler.specs.NewTrials.{pastDiscovery, newTrial, servedHistory, hasModel, continuous, choices}
 use Rattle.sampler.specs.Runs.{Asked, asks, closes, Call, callOf}
-use Rattle.sampler.specs.State.{placeAt, trialPlace, freePlace, samplerOk}
+use Rattle.sampler_state.specs.State.{placeAt, trialPlace, freePlace, samplerOk}
 use Rattle.sampler.proofs.Asked.{read-held}
 use Rattle.sampler.proofs.PlaceCounts.{trial-taken, trial-none, taken-active, by-test}
 use Rattle.sampler.proofs.Words.{call}

@@ -16,10 +16,10 @@ use Rattle.proposal.specs.declared.Proposal.{Proposal}
 use Rattle.proposal.specs.Proposal.{computeCandidateOf}
 use Rattle.proposal.proofs.Moving.{compute-moves}
 use Rattle.sampler.specs.declared.Sampled.{Sampled}
-use Rattle.sampler.specs.declared.Sampler.{Sampler}
+use Rattle.sampler_state.specs.declared.Sampler.{Sampler}
 use Rattle.sampler.specs.Calls.{refusedOf, drawnOf, withDimension, activated, unlessRefused, discoverOf, nextOf, storedOf, newTrialOf, activeOf, servedOf, askedOf, sampleOf, closeOf}
 use Rattle.sampler.specs.Runs.{asks, closes, Call, callOf}
-use Rattle.sampler.specs.State.{placeAt, trialPlace, freePlace, samplerOk}
+use Rattle.sampler_state.specs.State.{placeAt, trialPlace, freePlace, samplerOk}
 
 -- an answer to a call on s
 pub record Right (s : Sampler) (r : Sampled) : Type 0 where

@@ -19,10 +19,10 @@ use Rattle.history_rows.specs.Tests.{refusalOf}
 use Rattle.settings.specs.declared.Settings.{Settings}
 use Rattle.settings.specs.Settings.{settingsOk}
 use Rattle.proposal.specs.Proposal.{computeCandidateOf}
-use Rattle.sampler.specs.declared.Sampler.{Sampler}
+use Rattle.sampler_state.specs.declared.Sampler.{Sampler}
 use Rattle.sampler.specs.NewTrials.{newTrial, servedHistory, fitMade, fitAnswer, hasModel, continuous, choices, BestStored}
 use Rattle.sampler.specs.Runs.{Asked, asks, closes, Call, callOf, answersOf, endOf, Along, Alike}
-use Rattle.sampler.specs.State.{freshOf, placeAt, trialPlace, takenCount, storedAt, storedOk, samplerOk}
+use Rattle.sampler_state.specs.State.{freshOf, placeAt, trialPlace, takenCount, storedAt, storedOk, samplerOk}
 
 -- ---- demand 3, one statement about the whole list
 

@@ -17,9 +17,9 @@ use Rattle.dimensions.specs.Dimensions.{dimensionAt, continuousOf, columnsOf}
 use Rattle.history_view.specs.View.{viewOf}
 use Rattle.proposal.specs.Points.{fitFor}
 use Rattle.proposal.specs.Values.{decodeOf}
-use Rattle.sampler.specs.declared.Sampler.{Sampler}
+use Rattle.sampler_state.specs.declared.Sampler.{Sampler}
 use Rattle.sampler.specs.Runs.{asks, closes, Call, callOf}
-use Rattle.sampler.specs.State.{placeAt, storedAt, trialPlace}
+use Rattle.sampler_state.specs.State.{placeAt, storedAt, trialPlace}
 
 -- ---- "a new trial is one without a place that an accepted `sample` call serves, on the call that ends discovery or later"
 

@@ -2,12 +2,12 @@
 ghost use mathlib.Core.Path.{_≡_};
 ghost use Prim.Native.Nat.{_<_};
 ghost use Rattle.sampler.specs.Calls.{refusedOf, withWord, withPlace, activated, withDimension, drawnOf};
-use crate::Place;
 use crate::Sampled;
-use crate::Sampler;
 use common::RandomDraw;
 use distribution::Distribution;
 use distribution::ParamValue;
+use sampler_state::Place;
+use sampler_state::Sampler;
 
 // A refusal: the sampler as it was, and no word drawn.
 pub(crate) fn refused(s: Sampler, number: u64) -> Sampled
