@@ -14,7 +14,7 @@ use Rattle.gp_model.specs.Scaling.{toNormalizedOf}
 use Rattle.distribution.specs.Equal.{equalOf, floatEqual, intEqual}
 use Rattle.distribution.specs.Shape.{shapeOf, floatStep, intShape, intStep, categoricalShape}
 use Rattle.distribution.specs.Taken.{takenOf, valueOf, floatTaken, intTaken}
-use Rattle.distribution.specs.Words.{readOf, checkedOf, floatRead, intRead, categoricalRead}
+use Rattle.distribution_words.specs.Words.{readOf, checkedOf, floatRead, intRead, categoricalRead}
 use Rattle.dimensions.specs.declared.DimensionInfo.{DimensionInfo}
 use Rattle.dimensions.specs.Dimensions.{dimensionOf, dimensionOk, dimensionsOk, columnsOf}
 use Rattle.history.specs.Mapping.{none, insertById, entriesOf, firstEntry, consumedOf, matchesOf, mappedOf, numberOf, mappingOf}

@@ -8,7 +8,7 @@ use Rattle.arith.specs.Lists.{every}
 use Rattle.distribution.specs.Equal.{equalOf, floatEqual, intEqual}
 use Rattle.distribution.specs.Shape.{shapeOf, floatStep}
 use Rattle.distribution.specs.Taken.{takenOf, valueOf, floatTaken, intTaken}
-use Rattle.distribution.specs.Words.{readOf, checkedOf, floatRead, intRead, categoricalRead}
+use Rattle.distribution_words.specs.Words.{readOf, checkedOf, floatRead, intRead, categoricalRead}
 use Rattle.history_rows.specs.Rows.{wholeRows, rowCount, recentCount, recentOf}
 use Rattle.history_rows.specs.Tests.{rowOk, slotRead, slotOk, agreeing, slotsOk, idsOnce, rowsAgreeing, recentTests, refusalOf}
 use Rattle.history_rows.proofs.Samples.{slot, absent, row}

@@ -13,7 +13,7 @@ use Rattle.arith.specs.Lists.{every}
 use Rattle.arith.proofs.Lists.{every-each, each-every, place-found, place-some, place-most}
 use Rattle.arith.proofs.Tests.{either, or-left, or-right, or-split, iff}
 use Rattle.distribution.specs.declared.Read.{Read}
-use Rattle.distribution.specs.Words.{readOf}
+use Rattle.distribution_words.specs.Words.{readOf}
 use Rattle.distribution.proofs.Equals.{equal-sym, equal-trans}
 use Rattle.history_rows.specs.First.{firstRowWith, firstSlotWith, likeFirst, rowLikeFirst}
 use Rattle.history_rows.specs.Rows.{widthOf, rowAt, slotAt, idOf}

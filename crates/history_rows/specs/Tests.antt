@@ -11,7 +11,7 @@ use Rattle.distribution.specs.declared.Read.{Read}
 use Rattle.distribution.specs.Equal.{equalOf}
 use Rattle.distribution.specs.Shape.{power, within}
 use Rattle.distribution.specs.Taken.{takenOf, valueOf}
-use Rattle.distribution.specs.Words.{readOf}
+use Rattle.distribution_words.specs.Words.{readOf}
 use Rattle.history_rows.specs.Rows.{rowAt, stateOf, objectiveOf, slotAt, idOf, kindOf, takenWord, wholeRows, rowCount, recentOf}
 
 -- "state (0 Running, 1 Complete, 2 Failed, 3 Pruned), objective (finite, magnitude ≤ 2^52)"

@@ -25,7 +25,7 @@ pub fn is_present(slot: &[u64]) -> bool
 pub fn read(slot: &[u64]) -> Read
     ensures { λ r. ⌜ r ≡ slotRead (now (slot .entry)) ⌝ }
 {
-    distribution::distribution_of(
+    distribution_words::distribution_of(
         word(slot, 1),
         word(slot, 2),
         word(slot, 3),

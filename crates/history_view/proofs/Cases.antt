@@ -13,7 +13,7 @@ use Rattle.gp_model.specs.Scaling.{toNormalizedOf}
 use Rattle.distribution.specs.Equal.{equalOf, floatEqual, intEqual}
 use Rattle.distribution.specs.Shape.{shapeOf, floatStep, intShape, intStep, categoricalShape}
 use Rattle.distribution.specs.Taken.{takenOf, valueOf, floatTaken, intTaken}
-use Rattle.distribution.specs.Words.{readOf, checkedOf, floatRead, intRead, categoricalRead}
+use Rattle.distribution_words.specs.Words.{readOf, checkedOf, floatRead, intRead, categoricalRead}
 use Rattle.history.specs.RowsAgree.{RowsAgree}
 use Rattle.history_view.specs.Agree.{Agree}
 use Rattle.dimensions.specs.Dimensions.{dimensionOk, dimensionsOk, columnsOf}

@@ -10,7 +10,7 @@ use Rattle.arith.specs.Bounds.{abs, Within}
 use Rattle.distribution.specs.declared.Distribution.{Distribution}
 use Rattle.distribution.specs.declared.Read.{Read}
 use Rattle.distribution.specs.Equal.{equalOf}
-use Rattle.distribution.specs.RoundTrip.{Held}
+use Rattle.distribution_words.specs.RoundTrip.{Held}
 use Rattle.distribution.specs.Shape.{shapeOf}
 use Rattle.distribution.specs.Taken.{takenOf, valueOf}
 use Rattle.distribution.proofs.Equals.{equal-taken}

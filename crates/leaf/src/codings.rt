@@ -13,7 +13,7 @@ use distribution::Read;
 pub(crate) fn read(args: &[u64], from: usize) -> Read
     requires { ⌜ from + 6 ≤ length (now args) ⌝ }
 {
-    distribution::distribution_of(
+    distribution_words::distribution_of(
         args[from],
         args[from + 1],
         args[from + 2],

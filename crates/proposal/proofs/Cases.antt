@@ -22,7 +22,7 @@ use Rattle.distribution.specs.Shape.{shapeOf, intShape, intStep, categoricalSha
 use Rattle.common.specs.Bounds.{boundsOf, endsOf}
 use Rattle.distribution.specs.Equal.{equalOf, intEqual}
 use Rattle.distribution.specs.Taken.{takenOf, valueOf, intTaken}
-use Rattle.distribution.specs.Words.{readOf, checkedOf, intRead}
+use Rattle.distribution_words.specs.Words.{readOf, checkedOf, intRead}
 use Rattle.common.specs.Encode.{encodedOf, toInternalOf}
 use Rattle.common.specs.Decode.{fromInternalOf, decodedOf}
 use Rattle.common.specs.Grid.{intGrid}

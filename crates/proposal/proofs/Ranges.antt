@@ -24,7 +24,7 @@ use Rattle.rng_util.proofs.Nonzero.{Nonzero, next-nonzero, moved-nonzero}
 use Rattle.rng_util.proofs.Unit as unit
 use Rattle.distribution.specs.declared.Distribution.{Distribution}
 use Rattle.distribution.specs.declared.ParamValue.{ParamValue}
-use Rattle.distribution.specs.RoundTrip.{Held}
+use Rattle.distribution_words.specs.RoundTrip.{Held}
 use Rattle.distribution.specs.Shape.{shapeOf}
 use Rattle.distribution.specs.Taken.{takenOf}
 use Rattle.distribution.proofs.Facts.{parts}

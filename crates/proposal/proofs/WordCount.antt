@@ -12,7 +12,7 @@ use borrow.Author.Tests.{eqb-true, eqb-false}
 use Rattle.arith.specs.Lists.{padded, placesOf}
 use Rattle.rng_util.proofs.Nonzero.{Nonzero, moved-nonzero}
 use Rattle.distribution.specs.declared.Distribution.{Distribution}
-use Rattle.distribution.specs.RoundTrip.{Held}
+use Rattle.distribution_words.specs.RoundTrip.{Held}
 use Rattle.distribution.specs.Shape.{shapeOf}
 use Rattle.common.specs.declared.RandomDraw.{RandomDraw}
 use Rattle.common.specs.Random.{sampleRandomOf}

@@ -16,7 +16,7 @@ use Rattle.arith.proofs.Lists.{place-is, place-some, each-every}
 use Rattle.arith.proofs.Tests.{taken, untaken}
 use Rattle.distribution.specs.declared.Distribution.{Distribution}
 use Rattle.distribution.specs.declared.Read.{Read}
-use Rattle.distribution.specs.Words.{readOf}
+use Rattle.distribution_words.specs.Words.{readOf}
 use Rattle.distribution.proofs.Facts.{parts}
 use Rattle.dimensions.specs.declared.DimensionInfo.{DimensionInfo}
 use Rattle.dimensions.specs.Dimensions.{dimensionAt, continuousOf, columnsOf}

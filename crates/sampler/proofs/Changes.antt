@@ -17,7 +17,7 @@ use Rattle.arith.proofs.Tests.{untaken, either, or-left, or-right, or-split}
 use Rattle.distribution.proofs.Facts.{parts}
 use Rattle.rng_util.proofs.Nonzero.{Nonzero, nonzero-test}
 use Rattle.distribution.specs.declared.Distribution.{Distribution}
-use Rattle.distribution.specs.RoundTrip.{Held}
+use Rattle.distribution_words.specs.RoundTrip.{Held}
 use Rattle.distribution.specs.Shape.{shapeOf}
 use Rattle.common.specs.declared.InternalBounds.{InternalBounds}
 use Rattle.common.specs.Bounds.{boundsOf}

@@ -7,7 +7,7 @@ use lib.Dec.{eqb, ltb}
 use lib.ListN.{length, length-set}
 use Rattle.distribution.specs.declared.Distribution.{Distribution}
 use Rattle.distribution.specs.declared.Read.{Read}
-use Rattle.distribution.specs.Words.{readOf}
+use Rattle.distribution_words.specs.Words.{readOf}
 use Rattle.history_rows.specs.Tests.{refusalOf}
 use Rattle.settings.specs.declared.Settings.{Settings}
 use Rattle.proposal.specs.declared.Proposal.{Proposal}

@@ -14,7 +14,7 @@ use Rattle.arith.proofs.Lists.{every-each, place-found, place-most, place-some,
 use Rattle.arith.proofs.Tests.{taken as holds-true, untaken}
 use Rattle.distribution.specs.declared.Distribution.{Distribution}
 use Rattle.distribution.specs.declared.Read.{Read}
-use Rattle.distribution.specs.Words.{readOf}
+use Rattle.distribution_words.specs.Words.{readOf}
 use Rattle.distribution.proofs.Facts.{parts, asked}
 use Rattle.dimensions.specs.declared.DimensionInfo.{DimensionInfo}
 use Rattle.history_view.specs.declared.View.{View}

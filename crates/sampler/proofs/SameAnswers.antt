@@ -7,7 +7,7 @@ use lib.Dec.{T, eqb, ltb}
 use Rattle.distribution.specs.declared.Distribution.{Distribution}
 use Rattle.distribution.specs.declared.ParamValue.{ParamValue}
 use Rattle.distribution.specs.declared.Read.{Read}
-use Rattle.distribution.specs.Words.{readOf}
+use Rattle.distribution_words.specs.Words.{readOf}
 use Rattle.common.specs.Random.{sampleRandomOf}
 use Rattle.dimensions.specs.declared.DimensionInfo.{DimensionInfo}
 use Rattle.history_view.specs.declared.View.{View}

@@ -17,9 +17,9 @@ use Rattle.rng_util.proofs.Nonzero.{Nonzero, moved-nonzero}
 use Rattle.distribution.specs.declared.Distribution.{Distribution}
 use Rattle.distribution.specs.declared.ParamValue.{ParamValue}
 use Rattle.distribution.specs.declared.Read.{Read}
-use Rattle.distribution.specs.RoundTrip.{Held}
+use Rattle.distribution_words.specs.RoundTrip.{Held}
 use Rattle.distribution.specs.Shape.{shapeOf}
-use Rattle.distribution.specs.Words.{readOf}
+use Rattle.distribution_words.specs.Words.{readOf}
 use Rattle.common.specs.Random.{sampleRandomOf}
 use Rattle.common.proofs.Moves.{random-moves}
 use Rattle.dimensions.specs.Dimensions.{dimensionAt, dimensionsOk}

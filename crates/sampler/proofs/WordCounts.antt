@@ -12,8 +12,8 @@ use Rattle.arith.proofs.Tests.{taken, untaken}
 use Rattle.rng_util.proofs.Nonzero.{Nonzero}
 use Rattle.distribution.specs.declared.Distribution.{Distribution}
 use Rattle.distribution.specs.declared.Read.{Read}
-use Rattle.distribution.specs.RoundTrip.{Held}
-use Rattle.distribution.specs.Words.{readOf}
+use Rattle.distribution_words.specs.RoundTrip.{Held}
+use Rattle.distribution_words.specs.Words.{readOf}
 use Rattle.distribution.proofs.Facts.{parts}
 use Rattle.dimensions.specs.Dimensions.{dimensionAt}
 use Rattle.history_rows.specs.Tests.{refusalOf}

@@ -8,7 +8,7 @@ use borrow.Author.Tests.{eqb-true}
 use Rattle.rng_util.specs.Generator.{movedOf}
 use Rattle.distribution.specs.declared.Distribution.{Distribution}
 use Rattle.distribution.specs.declared.Read.{Read}
-use Rattle.distribution.specs.Words.{readOf}
+use Rattle.distribution_words.specs.Words.{readOf}
 use Rattle.common.specs.Random.{sampleRandomOf}
 use Rattle.common.proofs.Moves.{random-moves}
 use Rattle.history_rows.specs.Tests.{refusalOf}

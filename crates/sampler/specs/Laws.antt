@@ -9,9 +9,9 @@ use lib.Ieee.{binary64, fits}
 use Rattle.rng_util.specs.Generator.{movedOf}
 use Rattle.distribution.specs.declared.Distribution.{Distribution}
 use Rattle.distribution.specs.declared.Read.{Read}
-use Rattle.distribution.specs.RoundTrip.{Held}
+use Rattle.distribution_words.specs.RoundTrip.{Held}
 use Rattle.distribution.specs.Shape.{shapeOf}
-use Rattle.distribution.specs.Words.{readOf}
+use Rattle.distribution_words.specs.Words.{readOf}
 use Rattle.common.specs.Random.{sampleRandomOf}
 use Rattle.history_view.specs.Agree.{Agree}
 use Rattle.dimensions.specs.Dimensions.{dimensionAt}

@@ -41,7 +41,7 @@ pub fn sample(
     if !sampler_state::sampler_ok(s) {
         return states::refused(s, 11);
     }
-    match distribution::distribution_of(kind, low, high, log, stepped, step) {
+    match distribution_words::distribution_of(kind, low, high, log, stepped, step) {
         Read::WellFormed(d) => asked(s, d, trial, h),
         Read::Malformed => states::refused(s, 2),
     }

@@ -8,7 +8,7 @@ use Rattle.arith.specs.Rounding.{nearestOf, roundOf}
 use Rattle.arith.specs.Sqrt.{sqrtOf}
 use Rattle.distribution.specs.Equal.{equalOf, intEqual}
 use Rattle.distribution.specs.Taken.{takenOf, valueOf, intTaken}
-use Rattle.distribution.specs.Words.{readOf, checkedOf, intRead}
+use Rattle.distribution_words.specs.Words.{readOf, checkedOf, intRead}
 use Rattle.distribution.specs.Shape.{shapeOf, intShape, intStep, categoricalShape}
 use Rattle.common.specs.Bounds.{boundsOf, endsOf}
 use Rattle.common.specs.Decode.{fromInternalOf, decodedOf}

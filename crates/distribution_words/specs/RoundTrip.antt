@@ -5,10 +5,10 @@ use mathlib.Core.List.{[], _∷_}
 use lib.Dec.{T}
 use lib.ListN.{getD}
 use lib.Ieee.{binary64, fits}
 use Rattle.distribution.specs.declared.Distribution.{Distribution}
 use Rattle.distribution.specs.declared.Read.{Read}
 use Rattle.distribution.specs.Shape.{shapeOf}
-use Rattle.distribution.specs.Words.{wordsOf, readOf}
+use Rattle.distribution_words.specs.Words.{wordsOf, readOf}
 
 -- the floats are binary64's, as those of a program are; integers and counts fit a word by their limits
 abbrev pub Held : Distribution → Type 0

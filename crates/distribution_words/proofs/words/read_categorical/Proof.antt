@@ -1,8 +1,8 @@
--- `distribution::words::read_categorical` meets its contract, by what its callees say.
+-- `distribution_words::words::read_categorical` meets its contract, by what its callees say.
 use borrow.Author.Needs.{needs}
-use Rattle.distribution.specs.Words.{categoricalRead}
-use Rattle.distribution.proofs.words.read_categorical.Statement.{statement}
-use Rattle.distribution.proofs.words.read_categorical.Tie as tie
+use Rattle.distribution_words.specs.Words.{categoricalRead}
+use Rattle.distribution_words.proofs.words.read_categorical.Statement.{statement}
+use Rattle.distribution_words.proofs.words.read_categorical.Tie as tie
 
 all-requires : tie.Need-all-requires
 all-requires c κs = search needs

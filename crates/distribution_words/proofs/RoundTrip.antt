@@ -17,15 +17,15 @@ use mir.ValLaws.{toZ-ofZ, ofZ-toZ}
 use Rattle.arith.specs.Bounds.{real}
 use Rattle.arith.proofs.Order.{le-real}
 use Rattle.arith.proofs.Tests.{either}
 use Rattle.distribution.specs.declared.FloatDistribution.{FloatDistribution}
 use Rattle.distribution.specs.declared.IntDistribution.{IntDistribution}
 use Rattle.distribution.specs.declared.CategoricalDistribution.{CategoricalDistribution}
 use Rattle.distribution.specs.declared.Distribution.{Distribution}
 use Rattle.distribution.specs.declared.Read.{Read}
 use Rattle.distribution.specs.Shape.{power, shapeOf}
-use Rattle.distribution.specs.Words.{flag, only, wordsOf, checkedOf, floatRead, intRead, categoricalRead, readOf}
-use Rattle.distribution.specs.RoundTrip.{Held, RoundTrip}
+use Rattle.distribution_words.specs.Words.{flag, only, wordsOf, checkedOf, floatRead, intRead, categoricalRead, readOf}
+use Rattle.distribution_words.specs.RoundTrip.{Held, RoundTrip}
 use Rattle.distribution.proofs.Facts.{parts, Bounded, FloatRules, float-rules, int-rules}
 
 -- ---- from a distribution
 

@@ -2,15 +2,15 @@
 ghost use mathlib.Core.Path.{_≡_};
 ghost use mathlib.Core.Bool.{_&&_};
 ghost use lib.Dec.{leb};
-ghost use Rattle.distribution.specs.RoundTrip.{RoundTrip};
-ghost use Rattle.distribution.specs.Words.{wordsOf, readOf, floatRead, intRead, categoricalRead, checkedOf, flag};
-use crate::CategoricalDistribution;
-use crate::Distribution;
-use crate::FloatDistribution;
-use crate::IntDistribution;
-use crate::Read;
-use crate::limits::all;
-use crate::shape::well_formed;
+ghost use Rattle.distribution_words.specs.RoundTrip.{RoundTrip};
+ghost use Rattle.distribution_words.specs.Words.{wordsOf, readOf, floatRead, intRead, categoricalRead, checkedOf, flag};
+use distribution::CategoricalDistribution;
+use distribution::Distribution;
+use distribution::FloatDistribution;
+use distribution::IntDistribution;
+use distribution::Read;
+use distribution::limits::all;
+use distribution::well_formed;
 
 fn flag_word(b: bool) -> u64
     ensures { λ r. ⌜ r ≡ flag b ⌝ }

@@ -1,8 +1,8 @@
--- `distribution::words::read_float` meets its contract, by what its callees say.
+-- `distribution_words::words::read_float` meets its contract, by what its callees say.
 use borrow.Author.Needs.{needs}
-use Rattle.distribution.specs.Words.{floatRead}
-use Rattle.distribution.proofs.words.read_float.Statement.{statement}
-use Rattle.distribution.proofs.words.read_float.Tie as tie
+use Rattle.distribution_words.specs.Words.{floatRead}
+use Rattle.distribution_words.proofs.words.read_float.Statement.{statement}
+use Rattle.distribution_words.proofs.words.read_float.Tie as tie
 
 flags-requires : tie.Need-flags-requires
 flags-requires c κs = search needs

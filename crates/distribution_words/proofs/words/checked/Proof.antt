@@ -1,8 +1,8 @@
--- `distribution::words::checked` meets its contract, by what `well_formed` says.
+-- `distribution_words::words::checked` meets its contract, by what `well_formed` says.
 use borrow.Author.Needs.{needs}
-use Rattle.distribution.specs.Words.{checkedOf}
-use Rattle.distribution.proofs.words.checked.Statement.{statement}
-use Rattle.distribution.proofs.words.checked.Tie as tie
+use Rattle.distribution_words.specs.Words.{checkedOf}
+use Rattle.distribution_words.proofs.words.checked.Statement.{statement}
+use Rattle.distribution_words.proofs.words.checked.Tie as tie
 
 well-formed-requires : tie.Need-well-formed-requires
 well-formed-requires c κs = search needs

@@ -1,9 +1,9 @@
--- `distribution::words::read_int` meets its contract, by what its callees say.
+-- `distribution_words::words::read_int` meets its contract, by what its callees say.
 use borrow.Author.Needs.{needs}
-use Rattle.distribution.specs.Words.{intRead}
+use Rattle.distribution_words.specs.Words.{intRead}
 use Rattle.distribution.proofs.Whole.{ReadBack}
-use Rattle.distribution.proofs.words.read_int.Statement.{statement}
-use Rattle.distribution.proofs.words.read_int.Tie as tie
+use Rattle.distribution_words.proofs.words.read_int.Statement.{statement}
+use Rattle.distribution_words.proofs.words.read_int.Tie as tie
 
 -- an `i64` is read back from its bits as itself
 fields : (c : tie.After-int-of-word3) → ReadBack (c .before .before .int-of-word .result) × ReadBack (c .before .int-of-word2 .result) × ReadBack (c .int-of-word3 .result)

@@ -1,9 +1,9 @@
--- `distribution::words::words_of` meets its contract, by the kind.
+-- `distribution_words::words::words_of` meets its contract, by the kind.
 use borrow.Author.Needs.{needs}
-use Rattle.distribution.specs.Words.{wordsOf}
+use Rattle.distribution_words.specs.Words.{wordsOf}
 use Rattle.distribution.proofs.Whole.{ReadBack}
-use Rattle.distribution.proofs.words.words_of.Statement.{statement}
-use Rattle.distribution.proofs.words.words_of.Tie as tie
+use Rattle.distribution_words.proofs.words.words_of.Statement.{statement}
+use Rattle.distribution_words.proofs.words.words_of.Tie as tie
 
 -- an `i64` is read back from its bits as itself
 fields : (c : tie.After-known-told2) → let d = c .before .d2 .given .0 .0 in ReadBack (d .low) × ReadBack (d .high) × ReadBack (d .step)

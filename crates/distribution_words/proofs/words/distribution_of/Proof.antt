@@ -1,9 +1,9 @@
--- `distribution::words::distribution_of` meets its contract, by the kind.
+-- `distribution_words::words::distribution_of` meets its contract, by the kind.
 use borrow.Author.Tests.{eq-eqb, ne-eqb}
 use borrow.Author.Needs.{needs}
-use Rattle.distribution.specs.Words.{readOf}
-use Rattle.distribution.proofs.words.distribution_of.Statement.{statement}
-use Rattle.distribution.proofs.words.distribution_of.Tie as tie
+use Rattle.distribution_words.specs.Words.{readOf}
+use Rattle.distribution_words.proofs.words.distribution_of.Statement.{statement}
+use Rattle.distribution_words.proofs.words.distribution_of.Tie as tie
 
 read-float-requires : tie.Need-read-float-requires
 read-float-requires c κs = search needs

@@ -1,7 +1,7 @@
--- `distribution::words::flags` meets its contract, by its two tests in order.
+-- `distribution_words::words::flags` meets its contract, by its two tests in order.
 use borrow.Author.Tests.{le-leb, lt-leb}
-use Rattle.distribution.proofs.words.flags.Statement.{statement}
-use Rattle.distribution.proofs.words.flags.Tie as tie
+use Rattle.distribution_words.proofs.words.flags.Statement.{statement}
+use Rattle.distribution_words.proofs.words.flags.Tie as tie
 
 returns : tie.Need-returns
 returns c = rw (le-leb _ _ (c .if1 .taken))
