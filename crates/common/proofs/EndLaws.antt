@@ -12,13 +12,13 @@ use lib.Ieee.Bits.{is-true}
 use lib.Ieee.Fits.{ofInt-fits, add-fits, cond-fits}
 use Rattle.arith.specs.declared.Outcome.the-variants.{Value, Refused}
 use Rattle.arith.specs.Bounds.{Within, Between}
-use Rattle.arith.specs.Ln.{lnOf, normal, mantissaOf, exponentOf, halvedOf, seriesOf}
+use Rattle.logarithm.specs.Ln.{lnOf, normal, mantissaOf, exponentOf, halvedOf, seriesOf}
 use Rattle.arith.specs.Outcome.{pick}
 use Rattle.arith.proofs.Order as order
 use Rattle.arith.proofs.Within.{widen, within, upper}
 use Rattle.arith.proofs.Mono.{ofInt-mono}
-use Rattle.arith.proofs.LnLaws.{Accepted, ln-end}
-use Rattle.arith.proofs.LnMono.{ln-mono}
+use Rattle.logarithm.proofs.LnLaws.{Accepted, ln-end}
+use Rattle.logarithm.proofs.LnMono.{ln-mono}
 use Rattle.distribution.specs.declared.FloatDistribution.{FloatDistribution}
 use Rattle.distribution.specs.declared.IntDistribution.{IntDistribution}
 use Rattle.distribution.specs.declared.CategoricalDistribution.{CategoricalDistribution}

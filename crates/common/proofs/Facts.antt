@@ -15,7 +15,7 @@ use Rattle.arith.specs.declared.Outcome.the-variants.{Value}
 use Rattle.arith.specs.Bounds.{abs, Within, Between}
 use Rattle.arith.proofs.Order as order
 use Rattle.arith.proofs.Within.{bound, sub-in, div-in, widen, within-finite}
-use Rattle.arith.proofs.LnLaws.{ln-taken}
+use Rattle.logarithm.proofs.LnLaws.{ln-taken}
 use Rattle.rng_util.specs.Generator.{nextOf}
 use Rattle.rng_util.specs.Draws.{rangeOk, wholeOf, unitDrawOf, wholeDrawOf}
 use Rattle.rng_util.proofs.Nonzero.{Nonzero, nonzero-test}

@@ -3,7 +3,7 @@ use mathlib.Core.Bool.{Bool, cond}
 use lib.Ieee.{Float, binary64, ofInt}
 use Rattle.arith.specs.declared.Outcome.{Outcome}
 use Rattle.arith.specs.declared.Outcome.the-variants.{Value, Refused}
-use Rattle.arith.specs.Ln.{lnOf}
+use Rattle.logarithm.specs.Ln.{lnOf}
 use Rattle.arith.specs.Outcome.{pick}
 use Rattle.distribution.specs.declared.Distribution.{Distribution}
 use Rattle.distribution.specs.Shape.{shapeOf}

@@ -10,7 +10,7 @@ pub(crate) fn scale(log_scale: bool, x: f64) -> Outcome
     ensures { λ r. ⌜ r ≡ scaleOf «log_scale» x ⌝ }
 {
     if log_scale {
-        arith::ln(x)
+        logarithm::ln(x)
     } else {
         Outcome::Value(x)
     }

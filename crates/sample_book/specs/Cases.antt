@@ -6,7 +6,7 @@ use lib.Signed.{ltZ}
 use lib.Ieee.{binary64, ofBits, ofInt, toBits}
 use Rattle.arith.specs.declared.Outcome.the-variants.{Value}
 use Rattle.arith.specs.Exp.{expOf}
-use Rattle.arith.specs.Ln.{lnOf}
+use Rattle.logarithm.specs.Ln.{lnOf}
 use Rattle.arith.specs.Lists.{filled}
 use Rattle.arith.specs.Outcome.{wordOf}
 use Rattle.arith.specs.Sqrt.{sqrtOf}

@@ -2,7 +2,7 @@
 use mathlib.Core.Path.{refl}
 use lib.Ieee.{ofBits, toBits, round, add, sub, mul, div, neg, lt, le, isNan, ofInt, toSigned}
 use Rattle.arith.specs.Exp.{expOf, hornerOf, reducedOf, scaledOf, wholeOf}
-use Rattle.arith.specs.Ln.{lnOf, normal, field, digits, mantissaOf, exponentOf, halvedOf, seriesOf, series}
+use Rattle.logarithm.specs.Ln.{lnOf, normal, field, digits, mantissaOf, exponentOf, halvedOf, seriesOf, series}
 use Rattle.arith.specs.Lists.{grown, every}
 use Rattle.arith.specs.Rounding.{nearestOf, roundOf}
 use Rattle.arith.specs.Sqrt.{sqrtOf}

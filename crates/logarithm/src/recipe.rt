@@ -2,8 +2,8 @@
 ghost use mathlib.Core.Path.{_≡_};
 ghost use Prim.Native.Nat.{_<_};
 ghost use lib.Ieee.{binary64, ofInt, minus};
-ghost use Rattle.arith.specs.Ln.{lnOf, seriesOf, halvedOf};
-use crate::Outcome;
+ghost use Rattle.logarithm.specs.Ln.{lnOf, seriesOf, halvedOf};
+use arith::Outcome;
 
 // The exponent's field, less 1023, as a float.
 fn exponent(field: u64) -> f64

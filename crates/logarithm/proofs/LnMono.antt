@@ -15,18 +15,18 @@ use lib.Ieee.Fits.{and-l, and-r, add-fits, ofInt-fits}
 use lib.Ieee.Order.{le-of-values}
 use lib.Ieee.Positive.{positive, mul-at, positive-of-value, values-of-le}
 use lib.Ieee.Scale.{finite}
 use Rattle.arith.specs.declared.Outcome.the-variants.{Value, Refused}
 use Rattle.arith.specs.Outcome.{pick, numberOf}
 use Rattle.arith.specs.Bounds.{real, Between}
 use Rattle.arith.specs.Exp.{H, L}
-use Rattle.arith.specs.Ln.{lnOf, normal, field, digits, mantissaOf, exponentOf, series, seriesOf, halvedOf, whole}
+use Rattle.logarithm.specs.Ln.{lnOf, normal, field, digits, mantissaOf, exponentOf, series, seriesOf, halvedOf, whole}
 use Rattle.arith.proofs.Tests.{taken, untaken}
 use Rattle.arith.proofs.Order as order
 use Rattle.arith.proofs.Order.{LeS}
 use Rattle.arith.proofs.Mono.{add-left, add-right}
-use Rattle.arith.proofs.LnSize.{s-of}
-use Rattle.arith.proofs.LnSplit.{split}
-use Rattle.arith.proofs.LnTerm.{each, each-at, exact, product, Off, edge, Range, term, term-is, term-mono}
+use Rattle.logarithm.proofs.LnSize.{s-of}
+use Rattle.logarithm.proofs.LnSplit.{split}
+use Rattle.logarithm.proofs.LnTerm.{each, each-at, exact, product, Off, edge, Range, term, term-is, term-mono}
 
 -- ---- the ends of the term in m
 abbrev low : Float

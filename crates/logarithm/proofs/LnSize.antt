@@ -7,13 +7,13 @@ use lib.IntN.{pos, negsuc}
 use lib.Ieee.{Float, fin, binary64, add, sub, mul, div, neg, unlike, lt, le, ofInt, ofBits}
 use lib.Ieee.Fits.{and-i, and-l}
 use lib.Ieee.Scale.{finite}
 use Rattle.arith.proofs.Order as order
 use Rattle.arith.specs.Bounds.{abs, Within, Between, Sign}
 use Rattle.arith.proofs.Within.{within, upper, lower, mul-in, div-in, add-in, near-in, le-abs, within-finite}
 use Rattle.arith.proofs.Mono.{add-left, add-right, sub-left, mul-left}
 use Rattle.arith.proofs.Sign.{mul-sign, div-sign}
 use Rattle.arith.specs.Exp.{H, L}
-use Rattle.arith.specs.Ln.{seriesOf, series, whole}
+use Rattle.logarithm.specs.Ln.{seriesOf, series, whole}
 
 abbrev K : ℕ → Float
 K n = ofInt binary64 (pos n)

@@ -6,10 +6,10 @@ use mathlib.Core.Bool.{true}
 use lib.Dec.{T, le→leb}
 use lib.IntN.{pos}
 use lib.Ieee.{binary64, inFloat, ofInt, minus, neg, round}
 use Rattle.arith.proofs.Within.{neg-round}
 use borrow.Author.Needs.{needs}
-use Rattle.arith.proofs.logarithm.exponent.Statement.{statement}
-use Rattle.arith.proofs.logarithm.exponent.Tie as tie
+use Rattle.logarithm.proofs.recipe.exponent.Statement.{statement}
+use Rattle.logarithm.proofs.recipe.exponent.Tie as tie
 
 few : (n : ℕ) → n < 2047 → T (inFloat binary64 (pos n))
 unfolding inFloat

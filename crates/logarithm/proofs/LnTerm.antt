@@ -15,11 +15,11 @@ use lib.Ieee.Fits.{and-i, and-l, and-r, up-pos, down-pos}
 use lib.Ieee.Order.{round-mono}
 use lib.Ieee.Positive.{positive, num, den, den-pos, between, own-value, value-pos, positive-of-value, values-of-le}
 use lib.Ieee.Scale.{finite, round-same}
 use Rattle.arith.specs.Bounds.{negative, Within}
-use Rattle.arith.specs.Ln.{series, whole}
+use Rattle.logarithm.specs.Ln.{series, whole}
 use Rattle.arith.proofs.Order as order
 use Rattle.arith.proofs.Within.{bound, upper, mul-in, add-in, within-finite, abs-round, neg-round, negative-round}
-use Rattle.arith.proofs.LnSize.{s-of}
+use Rattle.logarithm.proofs.LnSize.{s-of}
 
 -- ---- a test at each number below n
 abbrev pub each : (ℕ → Bool) → ℕ → Bool

@@ -5,14 +5,14 @@ use native.Mathlib.Omega.{arith}
 use borrow.Author.Tests.{le-leb, lt-leb, lt-ltb, le-ltb}
 use lib.Dec.{T}
 use lib.Ieee.{Float, binary64, lt, ofBits, toBits, ofInt}
 use Rattle.arith.proofs.Order.{le-of-lt, le-real}
-use Rattle.arith.specs.Ln.{lnOf, normal, field, digits, mantissaOf, exponentOf, halvedOf}
+use Rattle.logarithm.specs.Ln.{lnOf, normal, field, digits, mantissaOf, exponentOf, halvedOf}
 use Rattle.arith.specs.declared.Outcome.the-variants.{Value, Refused}
 use borrow.Author.Needs.{needs}
 use Rattle.arith.proofs.Patterns.{no-nan}
 use Rattle.arith.proofs.Tests.{taken}
-use Rattle.arith.proofs.logarithm.ln.Statement.{statement}
-use Rattle.arith.proofs.logarithm.ln.Tie as tie
+use Rattle.logarithm.proofs.recipe.ln.Statement.{statement}
+use Rattle.logarithm.proofs.recipe.ln.Tie as tie
 
 -- what the tests pick
 refused : (x : Float) → normal x ≡ false → Refused 11 ≡ lnOf x

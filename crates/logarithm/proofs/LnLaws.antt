@@ -18,18 +18,18 @@ use lib.Ieee.Exact.{HasValue}
 use lib.Ieee.Order.{le-of-values}
 use lib.Ieee.Positive.{positive, between, positive-finite, values-of-le}
 use lib.Ieee.Scale.{finite}
 use Rattle.arith.specs.declared.Outcome.the-variants.{Value}
 use Rattle.arith.specs.Bounds.{Within, Between}
 use Rattle.arith.specs.Exp.{H}
-use Rattle.arith.specs.Ln.{lnOf, normal, field, digits, mantissaOf, exponentOf, seriesOf, halvedOf, whole}
+use Rattle.logarithm.specs.Ln.{lnOf, normal, field, digits, mantissaOf, exponentOf, seriesOf, halvedOf, whole}
 use Rattle.arith.proofs.Tests.{taken, untaken, either}
 use Rattle.arith.proofs.Order as order
 use Rattle.arith.proofs.Within.{within, upper, lower, within-finite}
 use Rattle.arith.proofs.Mono.{add-left, mul-left, ofInt-mono}
 use Rattle.arith.proofs.Zero.{above-zero}
 use Rattle.arith.proofs.Patterns.{value-of, digitsOf, above, finite-bits}
-use Rattle.arith.proofs.LnSplit.{split}
-use Rattle.arith.proofs.LnSize.{Near, rest, most, tiny, rest-size, rest-up, rest-down, ln-up, ln-down}
+use Rattle.logarithm.proofs.LnSplit.{split}
+use Rattle.logarithm.proofs.LnSize.{Near, rest, most, tiny, rest-size, rest-up, rest-down, ln-up, ln-down}
 
 abbrev power : ℤ → Float
 power z = fin false 1 z

@@ -1,8 +1,8 @@
 use mathlib.Core.Path.{refl}
 use lib.Ieee.{ofInt, ofBits}
-use Rattle.arith.specs.Ln.{seriesOf, series}
-use Rattle.arith.proofs.logarithm.series.Statement.{statement}
-use Rattle.arith.proofs.logarithm.series.Tie as tie
+use Rattle.logarithm.specs.Ln.{seriesOf, series}
+use Rattle.logarithm.proofs.recipe.series.Statement.{statement}
+use Rattle.logarithm.proofs.recipe.series.Tie as tie
 
 returns : tie.Need-returns
 unfolding seriesOf series ofInt ofBits

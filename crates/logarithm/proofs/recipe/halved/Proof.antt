@@ -1,9 +1,9 @@
 use mathlib.Core.Path.{_∙_}
 use lib.Ieee.{ofInt, ofBits}
-use Rattle.arith.specs.Ln.{halvedOf}
+use Rattle.logarithm.specs.Ln.{halvedOf}
 use borrow.Author.Needs.{needs}
-use Rattle.arith.proofs.logarithm.halved.Statement.{statement}
-use Rattle.arith.proofs.logarithm.halved.Tie as tie
+use Rattle.logarithm.proofs.recipe.halved.Statement.{statement}
+use Rattle.logarithm.proofs.recipe.halved.Tie as tie
 
 series-requires : tie.Need-series-requires
 series-requires c κs = search needs

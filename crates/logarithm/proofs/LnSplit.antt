@@ -7,8 +7,8 @@ use lib.Dec.{T}
 use lib.Ieee.{Float, binary64, fits, ofBits, toBits}
 use lib.Ieee.Bits.{ofBits-toBits}
 use lib.Ieee.Exact.{HasValue}
-use Rattle.arith.specs.Ln.{field, digits, mantissaOf}
+use Rattle.logarithm.specs.Ln.{field, digits, mantissaOf}
 use Rattle.arith.proofs.Patterns.{value-of, digitsOf, above}
 
 value-at : (b k : ℕ) → b / 4503599627370496 ≡ suc k → suc k < 2047 → HasValue (ofBits binary64 b) false ((2 ^ 52 + b % 4503599627370496) * 2 ^ k) (2 ^ 1074)
 value-at b k e h = subst (λ (f : ℕ). HasValue (ofBits binary64 b) false (digitsOf f (b % 4503599627370496) * 2 ^ above f) (2 ^ 1074)) e (value-of b (omega arith))
