@@ -19,7 +19,8 @@ use Rattle.dimensions.specs.declared.DimensionInfo.{DimensionInfo}
 use Rattle.dimensions.specs.Dimensions.{dimensionOf, dimensionOk, dimensionsOk, columnsOf}
 use Rattle.history.specs.Mapping.{none, insertById, entriesOf, firstEntry, consumedOf, matchesOf, mappedOf, numberOf, mappingOf}
 use Rattle.history_rows.specs.Rows.{wholeRows, rowCount, recentCount, recentOf}
-use Rattle.history_rows.specs.Tests.{rowOk, slotRead, slotOk, agreeing, slotsOk, idsOnce, rowsAgreeing, recentTests, refusalOf}
+use Rattle.history_rows.specs.Tests.{rowOk, slotsOk, idsOnce, rowsAgreeing, recentTests, refusalOf}
+use Rattle.slots.specs.Slot.{slotRead, slotOk, agreeing}
 use Rattle.history_rows.specs.Slots.{slotWith}
 use Rattle.history.specs.Training.{coversOf, trainsOf, entryOf, columnOf, keptOf, xOf, yOf, recentTraining, trainingOf}
 use Rattle.history_rows.proofs.Samples.{row}

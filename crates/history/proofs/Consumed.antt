@@ -16,8 +16,9 @@ use Rattle.dimensions.specs.declared.DimensionInfo.{DimensionInfo}
 use Rattle.history.specs.declared.Mapped.{Mapped}
 use Rattle.dimensions.specs.Dimensions.{dimensionAt}
 use Rattle.history.specs.Mapping.{insertById, entriesOf, none, firstEntry, consumedOf, matchesOf, mappedOf}
-use Rattle.history_rows.specs.Rows.{slotAt, idOf}
-use Rattle.history_rows.specs.Tests.{present, slotRead, readsEqual}
+use Rattle.history_rows.specs.Rows.{slotAt}
+use Rattle.slots.specs.Slot.{idOf}
+use Rattle.slots.specs.Slot.{present, slotRead, readsEqual}
 
 -- ---- what holds of each entry
 

@@ -14,8 +14,9 @@ use Rattle.dimensions.specs.declared.DimensionInfo.{DimensionInfo}
 use Rattle.history.specs.declared.Mapped.{Mapped}
 use Rattle.dimensions.specs.Dimensions.{dimensionAt}
 use Rattle.history.specs.Mapping.{none, entriesOf, firstEntry, isMapped, consumedOf, matchesOf, mappedOf}
-use Rattle.history_rows.specs.Rows.{widthOf, rowAt, idOf}
-use Rattle.history_rows.specs.Tests.{slotRead, readsEqual}
+use Rattle.history_rows.specs.Rows.{widthOf, rowAt}
+use Rattle.slots.specs.Slot.{idOf}
+use Rattle.slots.specs.Slot.{slotRead, readsEqual}
 use Rattle.history.proofs.Least.{first-same}
 
 -- past the dimensions before, the array is not read

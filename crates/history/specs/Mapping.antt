@@ -11,8 +11,10 @@ use Rattle.dimensions.specs.declared.DimensionInfo.{DimensionInfo}
 use Rattle.history.specs.declared.Mapped.{Mapped}
 use Rattle.history.specs.declared.Mapping.{Mapping}
 use Rattle.dimensions.specs.Dimensions.{dimensionAt, dimensionsOk}
-use Rattle.history_rows.specs.Rows.{rowAt, slotAt, idOf, recentOf}
-use Rattle.history_rows.specs.Tests.{present, slotRead, readsEqual, refusalOf}
+use Rattle.history_rows.specs.Rows.{rowAt, slotAt, recentOf}
+use Rattle.slots.specs.Slot.{idOf}
+use Rattle.slots.specs.Slot.{present, slotRead, readsEqual}
+use Rattle.history_rows.specs.Tests.{refusalOf}
 
 -- a slot put before the first one of a greater id
 unfoldable pub insertById : List ℕ → List (List ℕ) → List (List ℕ)

@@ -14,9 +14,11 @@ use Rattle.history.specs.declared.Mapped.{Mapped}
 use Rattle.history.specs.declared.Training.{Training}
 use Rattle.dimensions.specs.Dimensions.{dimensionAt, columnsOf}
 use Rattle.history.specs.Mapping.{none, mappedOf, numberOf}
-use Rattle.history_rows.specs.Rows.{rowAt, slotAt, takenWord, objectiveOf, rowCount, recentOf}
-use Rattle.history_rows.specs.Slots.{slotWith, valueRead}
-use Rattle.history_rows.specs.Tests.{slotRead}
+use Rattle.history_rows.specs.Rows.{rowAt, slotAt, objectiveOf, rowCount, recentOf}
+use Rattle.slots.specs.Slot.{takenWord}
+use Rattle.history_rows.specs.Slots.{slotWith}
+use Rattle.slots.specs.Slot.{valueRead}
+use Rattle.slots.specs.Slot.{slotRead}
 
 -- the row has a slot for a dimension of that mapping
 unfoldable pub coversOf : ℕ → List ℕ → Mapped → Bool

@@ -40,7 +40,7 @@ fn matches(mapping: [Mapped; 20], j: usize, d: Distribution, slot: &[u64]) -> bo
     requires { ⌜ (j ≤ 20) × (length (now slot) ≡ 8) ⌝ }
     ensures { λ r. ⌜ r ≡ matchesOf mapping j d (now (slot .entry)) ⌝ }
 {
-    if !history_rows::reads_equal(Read::WellFormed(d), history_rows::read(slot)) {
+    if !slots::reads_equal(Read::WellFormed(d), slots::read(slot)) {
         return false;
     }
     !consumed(mapping, j, slot[0])
@@ -58,7 +58,7 @@ fn better(mapping: [Mapped; 20], j: usize, d: Distribution, slot: &[u64], best: 
     requires { ⌜ (j ≤ 20) × (length (now slot) ≡ 8) ⌝ }
     ensures { λ r. ⌜ r ≡ betterOf (matchesOf mapping j d) (now (slot .entry)) best ⌝ }
 {
-    if !history_rows::is_present(slot) {
+    if !slots::is_present(slot) {
         return best;
     }
     if !matches(mapping, j, d, slot) {

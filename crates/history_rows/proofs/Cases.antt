@@ -10,7 +10,8 @@ use Rattle.distribution.specs.Shape.{shapeOf, floatStep}
 use Rattle.distribution.specs.Taken.{takenOf, valueOf, floatTaken, intTaken}
 use Rattle.distribution_words.specs.Words.{readOf, checkedOf, floatRead, intRead, categoricalRead}
 use Rattle.history_rows.specs.Rows.{wholeRows, rowCount, recentCount, recentOf}
-use Rattle.history_rows.specs.Tests.{rowOk, slotRead, slotOk, agreeing, slotsOk, idsOnce, rowsAgreeing, recentTests, refusalOf}
+use Rattle.history_rows.specs.Tests.{rowOk, slotsOk, idsOnce, rowsAgreeing, recentTests, refusalOf}
+use Rattle.slots.specs.Slot.{slotRead, slotOk, agreeing}
 use Rattle.history_rows.proofs.Samples.{slot, absent, row}
 
 abbrev Numbers : Type 0

@@ -16,9 +16,12 @@ use Rattle.distribution.specs.declared.Read.{Read}
 use Rattle.distribution_words.specs.Words.{readOf}
 use Rattle.distribution.proofs.Equals.{equal-sym, equal-trans}
 use Rattle.history_rows.specs.First.{firstRowWith, firstSlotWith, likeFirst, rowLikeFirst}
-use Rattle.history_rows.specs.Rows.{widthOf, rowAt, slotAt, idOf}
-use Rattle.history_rows.specs.Tests.{present, sameId, slotRead, readsEqual, agreeing, rowsAgreeing}
-use Rattle.history_rows.specs.Slots.{hasId, slotWith}
+use Rattle.history_rows.specs.Rows.{widthOf, rowAt, slotAt}
+use Rattle.slots.specs.Slot.{idOf}
+use Rattle.slots.specs.Slot.{present, sameId, slotRead, readsEqual, agreeing}
+use Rattle.history_rows.specs.Tests.{rowsAgreeing}
+use Rattle.slots.specs.Slot.{hasId}
+use Rattle.history_rows.specs.Slots.{slotWith}
 
 -- two that are equal to a third are equal
 pub reads-same : (x a b : Read) → T (readsEqual x a) → T (readsEqual x b) → T (readsEqual a b)

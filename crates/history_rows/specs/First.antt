@@ -1,11 +1,12 @@
 -- Test 7 as the code makes it: each present slot against the first recent slot of its id. Definitions only.
 use Prim.Native.Nat.{ℕ}
-use mathlib.Core.Bool.{Bool, true, cond, not, _||_}
+use mathlib.Core.Bool.{Bool, not, _||_}
 use mathlib.Core.List.{List}
 use lib.Dec.{ltb}
 use Rattle.arith.specs.Lists.{every, placeOf}
-use Rattle.history_rows.specs.Rows.{rowAt, slotAt, idOf}
-use Rattle.history_rows.specs.Tests.{present, slotRead, readsEqual}
+use Rattle.history_rows.specs.Rows.{rowAt, slotAt}
+use Rattle.slots.specs.Slot.{idOf}
+use Rattle.slots.specs.Slot.{present, slotRead, readsEqual}
 use Rattle.history_rows.specs.Slots.{slotWith}
 
 -- the first of m rows that has the id, or m

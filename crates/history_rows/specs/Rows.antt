@@ -46,12 +46,3 @@ slotAt row s = take 8 (drop (3 + 8 * s) row)
 
 abbrev pub slotsOf : ℕ → List ℕ → List (List ℕ)
 slotsOf n row = listOf (λ s. slotAt row s) n
-
-abbrev pub idOf : List ℕ → ℕ
-idOf slot = getD slot 0 0
-
-abbrev pub kindOf : List ℕ → ℕ
-kindOf slot = getD slot 1 0
-
-abbrev pub takenWord : List ℕ → ℕ
-takenWord slot = getD slot 7 0

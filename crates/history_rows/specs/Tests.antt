@@ -1,59 +1,18 @@
 -- The tests 3 to 7, each over all recent rows before the next. r stands for the words of the recent rows. Definitions only.
 use Prim.Native.Nat.{ℕ}
-use mathlib.Core.Bool.{Bool, false, cond, not, _&&_, _||_}
+use mathlib.Core.Bool.{Bool, cond, not, _&&_}
 use mathlib.Core.List.{List, [], _∷_}
-use lib.Dec.{eqb, leb}
+use lib.Dec.{leb}
 use lib.IntN.{pos}
-use lib.ListN.{getD}
 use lib.Ieee.{binary64, ofBits}
 use Rattle.arith.specs.Lists.{every}
-use Rattle.distribution.specs.declared.Read.{Read}
-use Rattle.distribution.specs.Equal.{equalOf}
 use Rattle.distribution.specs.Shape.{power, within}
-use Rattle.distribution.specs.Taken.{takenOf, valueOf}
-use Rattle.distribution_words.specs.Words.{readOf}
-use Rattle.history_rows.specs.Rows.{rowAt, stateOf, objectiveOf, slotAt, idOf, kindOf, takenWord, wholeRows, rowCount, recentOf}
+use Rattle.slots.specs.Slot.{slotOk, sameId, agreeing}
+use Rattle.history_rows.specs.Rows.{rowAt, stateOf, objectiveOf, slotAt, wholeRows, rowCount, recentOf}
 
 -- "state (0 Running, 1 Complete, 2 Failed, 3 Pruned), objective (finite, magnitude ≤ 2^52)"
 unfoldable pub rowOk : List ℕ → Bool
 rowOk row = leb (stateOf row) 3 && within (power (pos 52)) (ofBits binary64 (objectiveOf row))
-
--- ---- one slot
-
--- "A slot of kind 0 is absent"
-abbrev pub present : List ℕ → Bool
-present slot = not (eqb (kindOf slot) 0)
-
--- what its six words of a distribution say
-unfoldable pub slotRead : List ℕ → Read
-slotRead slot = readOf (kindOf slot) (getD slot 2 0) (getD slot 3 0) (getD slot 4 0) (getD slot 5 0) (getD slot 6 0)
-
--- the taken word obeys the Taken rule of a well-formed distribution
-abbrev pub takenRead : Read → ℕ → Bool
-takenRead (Read.WellFormed d) w = takenOf d (valueOf d w)
-takenRead Read.Malformed w = false
-
--- "absent and all zero", or well-formed with a value that was taken
-unfoldable pub slotOk : List ℕ → Bool
-unfolding slotRead
-slotOk slot = cond (present slot) (takenRead (slotRead slot) (takenWord slot)) (every 8 (λ k. eqb (getD slot k 0) 0))
-
--- ---- two slots
-
--- both are present, under one id
-abbrev pub sameId : List ℕ → List ℕ → Bool
-sameId a b = present a && present b && eqb (idOf a) (idOf b)
-
--- two distributions that were read are equal
-abbrev pub readsEqual : Read → Read → Bool
-readsEqual (Read.WellFormed a) (Read.WellFormed b) = equalOf a b
-readsEqual (Read.WellFormed a) Read.Malformed = false
-readsEqual Read.Malformed b = false
-
--- not of one id, or of equal distributions
-unfoldable pub agreeing : List ℕ → List ℕ → Bool
-unfolding slotRead
-agreeing a b = not (sameId a b) || readsEqual (slotRead a) (slotRead b)
 
 -- ---- the tests of one row, and of two
 

@@ -1,13 +1,8 @@
 // Histories as rows of words, and the tests that document 01 makes of the recent ones.
 pub mod rows;
-pub mod slots;
 pub mod tests;
 
 pub use rows::slot_place;
-pub use slots::is_present;
-pub use slots::read;
-pub use slots::reads_equal;
-pub use slots::value;
 pub use tests::recent_part;
 pub use tests::refusal;
 

@@ -5,9 +5,9 @@ ghost use Prim.Native.Nat.{_+_, _*_, _≤_, _<_};
 ghost use lib.ListN.{length};
 ghost use Rattle.arith.specs.Lists.{every};
 ghost use Rattle.history_rows.specs.Rows.{slotAt, widthOf};
-ghost use Rattle.history_rows.specs.Tests.{rowOk, sameId, slotsOk, idsOnce};
+ghost use Rattle.history_rows.specs.Tests.{rowOk, slotsOk, idsOnce};
+ghost use Rattle.slots.specs.Slot.{sameId};
 ghost use Rattle.history_rows.specs.Slots.{slotWith, slotPlace};
-use crate::slots;
 
 // Whether its state and its objective are good.
 pub(crate) fn row_ok(row: &[u64]) -> bool

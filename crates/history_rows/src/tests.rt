@@ -6,11 +6,11 @@ ghost use Rattle.arith.specs.Lists.{every};
 ghost use Rattle.history_rows.specs.First.{firstRowWith, likeFirst, rowLikeFirst};
 ghost use Rattle.history_rows.specs.Recent.{recentPart};
 ghost use Rattle.history_rows.specs.Rows.{widthOf, rowAt, slotAt, rowCount, olderOf, recentOf};
-ghost use Rattle.history_rows.specs.Tests.{rowOk, slotRead, slotsOk, idsOnce, rowsAgreeing, firstOf, recentTests, refusalOf};
+ghost use Rattle.history_rows.specs.Tests.{rowOk, slotsOk, idsOnce, rowsAgreeing, firstOf, recentTests, refusalOf};
+ghost use Rattle.slots.specs.Slot.{slotRead};
 ghost use Rattle.history_rows.specs.Slots.{slotWith};
 use crate::RecentRows;
 use crate::rows;
-use crate::slots;
 use distribution::Read;
 
 // Whether every state and objective is good.

@@ -30,9 +30,12 @@ use Rattle.history.specs.declared.Mapped.{Mapped}
 use Rattle.history.specs.declared.Training.{Training}
 use Rattle.dimensions.specs.Dimensions.{dimensionAt, continuousOf, columnsOf}
 use Rattle.history.specs.Mapping.{none, mappedOf, numberOf}
-use Rattle.history_rows.specs.Rows.{rowCount, recentOf, rowAt, objectiveOf, slotAt, idOf, takenWord}
-use Rattle.history_rows.specs.Tests.{rowOk, present, slotRead, takenRead, slotOk, slotsOk, sameId, readsEqual, agreeing, rowsAgreeing}
-use Rattle.history_rows.specs.Slots.{hasId, slotWith}
+use Rattle.history_rows.specs.Rows.{rowCount, recentOf, rowAt, objectiveOf, slotAt}
+use Rattle.slots.specs.Slot.{idOf, takenWord}
+use Rattle.history_rows.specs.Tests.{rowOk, slotsOk, rowsAgreeing}
+use Rattle.slots.specs.Slot.{present, slotRead, takenRead, slotOk, sameId, readsEqual, agreeing}
+use Rattle.slots.specs.Slot.{hasId}
+use Rattle.history_rows.specs.Slots.{slotWith}
 use Rattle.history.specs.Training.{coversOf, trainsOf, columnOf, keptOf, xOf, yOf, recentTraining, refusedOf, trainingOf}
 use Rattle.history_view.specs.Usable.{Usable}
 use Rattle.dimensions.proofs.Ok.{dimensions-ok}

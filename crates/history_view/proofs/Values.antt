@@ -22,8 +22,8 @@ use Rattle.common.proofs.Facts.{ValueFits, encode-accepted, apart, largest, nor
 use Rattle.gp_model.specs.Scaling.{toNormalizedOf}
 use Rattle.dimensions.specs.declared.DimensionInfo.{DimensionInfo}
 use Rattle.dimensions.specs.Dimensions.{sameBits, boundsAre, continuousOf, dimensionOk}
-use Rattle.history_rows.specs.Rows.{takenWord}
-use Rattle.history_rows.specs.Tests.{slotRead}
+use Rattle.slots.specs.Slot.{takenWord}
+use Rattle.slots.specs.Slot.{slotRead}
 use Rattle.history.specs.Training.{entryOf}
 
 -- ---- the dimension

@@ -17,7 +17,8 @@ use Rattle.common.specs.Random.{sampleRandomOf, randomOf, intRandom, linearIntR
 use Rattle.dimensions.specs.Dimensions.{dimensionOk, dimensionsOk}
 use Rattle.history.specs.Mapping.{insertById, entriesOf, firstEntry, consumedOf, matchesOf, mappedOf, numberOf, mappingOf}
 use Rattle.history_rows.specs.Rows.{wholeRows, rowCount, recentCount, recentOf}
-use Rattle.history_rows.specs.Tests.{rowOk, slotRead, slotOk, agreeing, slotsOk, idsOnce, rowsAgreeing, recentTests, refusalOf}
+use Rattle.history_rows.specs.Tests.{rowOk, slotsOk, idsOnce, rowsAgreeing, recentTests, refusalOf}
+use Rattle.slots.specs.Slot.{slotRead, slotOk, agreeing}
 use Rattle.acquisition.specs.Improvement.{expectedImprovementOf}
 use Rattle.acquisition.specs.Normal.{normCdfOf}
 use Rattle.rng_util.specs.Draws.{wholeDrawOf, wholeOf as wholeAt, rangeOk}

@@ -1,15 +1,14 @@
 -- `history_rows::rows::id_is_new` meets its contract. Assumes nothing.
-use Prim.Native.Nat.{ℕ, _+_, _-_, _*_, _≤_, _<_}
+use Prim.Native.Nat.{ℕ, _+_, _-_, _*_, _≤_}
 use mathlib.Core.Path.{_≡_, refl, sym, ap, _∙_}
-use mathlib.Core.Bool.{true, false, not, _&&_}
+use mathlib.Core.Bool.{true, not}
 use native.Mathlib.Numerals.{add-one}
 use native.Mathlib.Omega.{arith}
-use borrow.Author.Tests.{not-true, not-false}
 use Rattle.arith.specs.Lists.{every}
 use Rattle.arith.proofs.Lists.{every-not}
-use Rattle.history_rows.proofs.Parts.{part, lent-length}
+use Rattle.history_rows.proofs.Parts.{part}
 use Rattle.history_rows.specs.Rows.{slotAt}
-use Rattle.history_rows.specs.Tests.{sameId}
+use Rattle.slots.specs.Slot.{sameId}
 use borrow.Author.Needs.{needs}
 use Rattle.history_rows.proofs.rows.id_is_new.Statement.{statement}
 use Rattle.history_rows.proofs.rows.id_is_new.Tie as tie

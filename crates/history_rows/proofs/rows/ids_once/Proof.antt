@@ -1,14 +1,15 @@
 -- `history_rows::rows::ids_once` meets its contract. Assumes nothing.
-use Prim.Native.Nat.{_+_, _-_, _*_, _≤_, _<_}
-use mathlib.Core.Path.{_≡_, refl, sym, ap, _∙_}
-use mathlib.Core.Bool.{true, false, not, _&&_}
+use Prim.Native.Nat.{_-_, _≤_}
+use mathlib.Core.Path.{_≡_, refl, sym, _∙_}
+use mathlib.Core.Bool.{true, not}
 use native.Mathlib.Numerals.{add-one}
 use native.Mathlib.Omega.{arith}
 use borrow.Author.Tests.{not-true, not-false}
 use Rattle.arith.specs.Lists.{every}
 use Rattle.arith.proofs.Lists.{every-not}
 use Rattle.history_rows.specs.Rows.{slotAt}
-use Rattle.history_rows.specs.Tests.{sameId, idsOnce}
+use Rattle.slots.specs.Slot.{sameId}
+use Rattle.history_rows.specs.Tests.{idsOnce}
 use borrow.Author.Needs.{needs}
 use Rattle.history_rows.proofs.rows.ids_once.Statement.{statement}
 use Rattle.history_rows.proofs.rows.ids_once.Tie as tie

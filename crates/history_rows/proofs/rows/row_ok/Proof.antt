@@ -1,6 +1,6 @@
 -- `history_rows::rows::row_ok` meets its contract. Assumes nothing.
 use borrow.Author.Tests.{le-leb, lt-leb}
-use mathlib.Core.Path.{_≡_, refl, sym, ap, _∙_}
+use mathlib.Core.Path.{sym}
 use lib.Ieee.{ofBits, neg}
 use Rattle.history_rows.specs.Tests.{rowOk}
 use borrow.Author.Needs.{needs}

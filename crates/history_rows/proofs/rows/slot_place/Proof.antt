@@ -1,6 +1,4 @@
 -- `history_rows::rows::slot_place` meets its contract. Assumes nothing.
-use native.Mathlib.Omega.{arith}
-use mathlib.Core.Path.{sym}
 use borrow.Author.Tests.{le-leb, lt-leb, eq-eqb, ne-eqb}
 use Rattle.history_rows.specs.Slots.{slotPlace}
 use borrow.Author.Needs.{needs}

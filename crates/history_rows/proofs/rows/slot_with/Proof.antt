@@ -1,15 +1,15 @@
 -- `history_rows::rows::slot_with` meets its contract. Assumes nothing.
-use Prim.Native.Nat.{_+_, _-_, _*_, _≤_, _<_}
-use mathlib.Core.Path.{_≡_, refl, sym, ap, _∙_}
-use mathlib.Core.Bool.{true, false, not, _&&_}
+use Prim.Native.Nat.{_+_, _-_, _*_, _≤_}
+use mathlib.Core.Path.{_≡_, refl, sym, _∙_}
+use mathlib.Core.Bool.{true, not}
 use native.Mathlib.Numerals.{add-one}
 use native.Mathlib.Omega.{arith}
-use borrow.Author.Tests.{not-true, not-false}
 use Rattle.arith.specs.Lists.{every}
-use Rattle.history_rows.proofs.Parts.{part, lent-length}
+use Rattle.history_rows.proofs.Parts.{part}
 use Rattle.arith.proofs.Lists.{place-is, place-none}
 use Rattle.history_rows.specs.Rows.{slotAt}
-use Rattle.history_rows.specs.Slots.{hasId, slotWith}
+use Rattle.slots.specs.Slot.{hasId}
+use Rattle.history_rows.specs.Slots.{slotWith}
 use borrow.Author.Needs.{needs}
 use Rattle.history_rows.proofs.rows.slot_with.Statement.{statement}
 use Rattle.history_rows.proofs.rows.slot_with.Tie as tie

@@ -8,8 +8,9 @@ use borrow.Author.Tests.{not-true, not-false}
 use Rattle.arith.specs.Lists.{every}
 use Rattle.arith.proofs.Lists.{every-not}
 use Rattle.history_rows.specs.Rows.{slotAt}
-use Rattle.history_rows.specs.Tests.{slotOk, slotsOk}
-use Rattle.history_rows.proofs.Parts.{part, lent-length}
+use Rattle.slots.specs.Slot.{slotOk}
+use Rattle.history_rows.specs.Tests.{slotsOk}
+use Rattle.history_rows.proofs.Parts.{part}
 use borrow.Author.Needs.{needs}
 use Rattle.history_rows.proofs.rows.slots_ok.Statement.{statement}
 use Rattle.history_rows.proofs.rows.slots_ok.Tie as tie
@@ -46,7 +47,7 @@ part-slot-ok-end : tie.Need-part-slot-ok-end Inv-loop μ-loop
 part-slot-ok-end c = search needs
 
 slot-ok-requires : tie.Need-slot-ok-requires Inv-loop μ-loop
-slot-ok-requires c κs = lent-length 8 (c .before .before .before .before .args .row .now) (3 + 8 * c .before .before .loop .s) (omega arith)
+slot-ok-requires c κs = search needs
 
 returns : tie.Need-returns Inv-loop μ-loop
 unfolding slotsOk

@@ -3,7 +3,7 @@ use Prim.Native.Nat.{_+_, _-_, _*_, _≤_, _<_}
 use mathlib.Core.Path.{_≡_, refl, sym, ap, _∙_}
 use native.Mathlib.Omega.{arith}
 use Rattle.history_rows.proofs.Parts.{part, lent-length}
-use Rattle.history_rows.specs.Tests.{slotRead}
+use Rattle.slots.specs.Slot.{slotRead}
 use borrow.Author.Needs.{needs}
 use Rattle.history_rows.proofs.tests.read_with.Statement.{statement}
 use Rattle.history_rows.proofs.tests.read_with.Tie as tie

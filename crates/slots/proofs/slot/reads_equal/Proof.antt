@@ -1,7 +1,7 @@
--- `history_rows::slots::reads_equal` meets its contract. Assumes nothing.
+-- `slots::slot::reads_equal` meets its contract. Assumes nothing.
 use borrow.Author.Needs.{needs}
-use Rattle.history_rows.proofs.slots.reads_equal.Statement.{statement}
-use Rattle.history_rows.proofs.slots.reads_equal.Tie as tie
+use Rattle.slots.proofs.slot.reads_equal.Statement.{statement}
+use Rattle.slots.proofs.slot.reads_equal.Tie as tie
 
 enum-known-a : tie.Need-enum-known-a
 enum-known-a c = search needs

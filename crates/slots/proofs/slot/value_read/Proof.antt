@@ -1,7 +1,7 @@
--- `history_rows::slots::value_read` meets its contract. Assumes nothing.
+-- `slots::slot::value_read` meets its contract. Assumes nothing.
 use borrow.Author.Needs.{needs}
-use Rattle.history_rows.proofs.slots.value_read.Statement.{statement}
-use Rattle.history_rows.proofs.slots.value_read.Tie as tie
+use Rattle.slots.proofs.slot.value_read.Statement.{statement}
+use Rattle.slots.proofs.slot.value_read.Tie as tie
 
 enum-known-read : tie.Need-enum-known-read
 enum-known-read c = search needs

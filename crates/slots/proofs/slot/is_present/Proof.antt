@@ -1,8 +1,8 @@
--- `history_rows::slots::is_present` meets its contract. Assumes nothing.
+-- `slots::slot::is_present` meets its contract. Assumes nothing.
 use mathlib.Core.Path.{sym}
 use borrow.Author.Needs.{needs}
-use Rattle.history_rows.proofs.slots.is_present.Statement.{statement}
-use Rattle.history_rows.proofs.slots.is_present.Tie as tie
+use Rattle.slots.proofs.slot.is_present.Statement.{statement}
+use Rattle.slots.proofs.slot.is_present.Tie as tie
 
 word-requires : tie.Need-word-requires
 word-requires c κs = search needs

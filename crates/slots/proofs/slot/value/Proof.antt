@@ -1,8 +1,8 @@
--- `history_rows::slots::value` meets its contract. Assumes nothing.
+-- `slots::slot::value` meets its contract. Assumes nothing.
 use mathlib.Core.Path.{sym}
 use borrow.Author.Needs.{needs}
-use Rattle.history_rows.proofs.slots.value.Statement.{statement}
-use Rattle.history_rows.proofs.slots.value.Tie as tie
+use Rattle.slots.proofs.slot.value.Statement.{statement}
+use Rattle.slots.proofs.slot.value.Tie as tie
 
 read-requires : tie.Need-read-requires
 read-requires c κs = search needs

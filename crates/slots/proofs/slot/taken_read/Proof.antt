@@ -1,9 +1,9 @@
--- `history_rows::slots::taken_read` meets its contract. Assumes nothing.
+-- `slots::slot::taken_read` meets its contract. Assumes nothing.
 use mathlib.Core.Path.{ap, _∙_}
 use Rattle.distribution.specs.Taken.{takenOf}
 use borrow.Author.Needs.{needs}
-use Rattle.history_rows.proofs.slots.taken_read.Statement.{statement}
-use Rattle.history_rows.proofs.slots.taken_read.Tie as tie
+use Rattle.slots.proofs.slot.taken_read.Statement.{statement}
+use Rattle.slots.proofs.slot.taken_read.Tie as tie
 
 enum-known-read : tie.Need-enum-known-read
 enum-known-read c = search needs

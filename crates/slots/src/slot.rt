@@ -1,10 +1,9 @@
-// One slot: eight words.
+// One slot: eight words. A word past the end is 0.
 ghost use mathlib.Core.Path.{_≡_};
-ghost use lib.ListN.{length, getD};
+ghost use lib.ListN.{getD};
 ghost use lib.Dec.{eqb};
 ghost use Rattle.arith.specs.Lists.{every};
-ghost use Rattle.history_rows.specs.Tests.{present, slotRead, takenRead, slotOk, sameId, readsEqual};
-ghost use Rattle.history_rows.specs.Slots.{valueRead, hasId};
+ghost use Rattle.slots.specs.Slot.{present, slotRead, takenRead, slotOk, sameId, readsEqual, valueRead, hasId};
 use distribution::ParamValue;
 use distribution::Read;
 
@@ -63,12 +62,11 @@ pub fn value(slot: &[u64]) -> ParamValue
 }
 
 fn all_zero(slot: &[u64]) -> bool
-    requires { ⌜ length (now slot) ≡ 8 ⌝ }
     ensures { λ r. ⌜ r ≡ every 8 (λ k. eqb (getD (now (slot .entry)) k 0) 0) ⌝ }
 {
     let mut k = 0;
     while k < 8 {
-        if slot[k] != 0 {
+        if word(slot, k) != 0 {
             return false;
         }
         k += 1;
@@ -77,31 +75,28 @@ fn all_zero(slot: &[u64]) -> bool
 }
 
 // Whether it is absent and all zero, or well-formed with a value that was taken.
-pub(crate) fn slot_ok(slot: &[u64]) -> bool
-    requires { ⌜ length (now slot) ≡ 8 ⌝ }
+pub fn slot_ok(slot: &[u64]) -> bool
     ensures { λ r. ⌜ r ≡ slotOk (now (slot .entry)) ⌝ }
 {
     if is_present(slot) {
-        taken_read(read(slot), slot[7])
+        taken_read(read(slot), word(slot, 7))
     } else {
         all_zero(slot)
     }
 }
 
 // Whether it is present under that id.
-pub(crate) fn has_id(id: u64, slot: &[u64]) -> bool
-    requires { ⌜ length (now slot) ≡ 8 ⌝ }
+pub fn has_id(id: u64, slot: &[u64]) -> bool
     ensures { λ r. ⌜ r ≡ hasId id (now (slot .entry)) ⌝ }
 {
-    is_present(slot) && slot[0] == id
+    is_present(slot) && word(slot, 0) == id
 }
 
 // Whether two slots are present under one id.
-pub(crate) fn same_id(a: &[u64], b: &[u64]) -> bool
-    requires { ⌜ (length (now a) ≡ 8) × (length (now b) ≡ 8) ⌝ }
+pub fn same_id(a: &[u64], b: &[u64]) -> bool
     ensures { λ r. ⌜ r ≡ sameId (now (a .entry)) (now (b .entry)) ⌝ }
 {
-    is_present(a) && (is_present(b) && a[0] == b[0])
+    is_present(a) && (is_present(b) && word(a, 0) == word(b, 0))
 }
 
 // Whether two distributions that were read are equal.

@@ -1,9 +1,9 @@
--- `history_rows::slots::read` meets its contract. Assumes nothing.
+-- `slots::slot::read` meets its contract. Assumes nothing.
 use mathlib.Core.Path.{sym}
-use Rattle.history_rows.specs.Tests.{slotRead}
+use Rattle.slots.specs.Slot.{slotRead}
 use borrow.Author.Needs.{needs}
-use Rattle.history_rows.proofs.slots.read.Statement.{statement}
-use Rattle.history_rows.proofs.slots.read.Tie as tie
+use Rattle.slots.proofs.slot.read.Statement.{statement}
+use Rattle.slots.proofs.slot.read.Tie as tie
 
 word-requires : tie.Need-word-requires
 word-requires c κs = search needs

@@ -1,8 +1,8 @@
--- `history_rows::slots::same_id` meets its contract. Assumes nothing.
+-- `slots::slot::same_id` meets its contract. Assumes nothing.
 use mathlib.Core.Path.{sym}
 use borrow.Author.Needs.{needs}
-use Rattle.history_rows.proofs.slots.same_id.Statement.{statement}
-use Rattle.history_rows.proofs.slots.same_id.Tie as tie
+use Rattle.slots.proofs.slot.same_id.Statement.{statement}
+use Rattle.slots.proofs.slot.same_id.Tie as tie
 
 is-present-requires : tie.Need-is-present-requires
 is-present-requires c κs = search needs
@@ -10,14 +10,14 @@ is-present-requires c κs = search needs
 is-present-requires-2 : tie.Need-is-present-requires-2
 is-present-requires-2 c κs = search needs
 
-shared-slice-read-result : tie.Need-shared-slice-read-result
-shared-slice-read-result c = search needs
+word-requires : tie.Need-word-requires
+word-requires c κs = search needs
 
-shared-slice-read-result-2 : tie.Need-shared-slice-read-result-2
-shared-slice-read-result-2 c = search needs
+word-requires-2 : tie.Need-word-requires-2
+word-requires-2 c κs = search needs
 
 returns : tie.Need-returns
-returns c = rw (sym (c .before .before .before .before .before .is-present .ensures), c .before .before .before .before .if1 .taken, sym (c .before .before .before .is-present2 .ensures), c .before .before .if2 .taken)
+returns c = rw (sym (c .before .before .before .before .before .is-present .ensures), c .before .before .before .before .if1 .taken, sym (c .before .before .before .is-present2 .ensures), c .before .before .if2 .taken, c .before .word .ensures, c .word2 .ensures)
 
 returns-2 : tie.Need-returns-2
 returns-2 c = rw (sym (c .before .before .before .is-present .ensures), c .before .before .if1 .taken, sym (c .before .is-present2 .ensures), c .if2 .left)
@@ -31,8 +31,8 @@ same-id-spec =
     (tie.spec
     is-present-requires
     is-present-requires-2
-    shared-slice-read-result
-    shared-slice-read-result-2
+    word-requires
+    word-requires-2
     returns
     returns-2
     returns-3)

@@ -1,9 +1,9 @@
--- `history_rows::slots::slot_ok` meets its contract. Assumes nothing.
+-- `slots::slot::slot_ok` meets its contract. Assumes nothing.
 use mathlib.Core.Path.{sym}
-use Rattle.history_rows.specs.Tests.{slotOk}
+use Rattle.slots.specs.Slot.{slotOk}
 use borrow.Author.Needs.{needs}
-use Rattle.history_rows.proofs.slots.slot_ok.Statement.{statement}
-use Rattle.history_rows.proofs.slots.slot_ok.Tie as tie
+use Rattle.slots.proofs.slot.slot_ok.Statement.{statement}
+use Rattle.slots.proofs.slot.slot_ok.Tie as tie
 
 is-present-requires : tie.Need-is-present-requires
 is-present-requires c κs = search needs
@@ -11,8 +11,8 @@ is-present-requires c κs = search needs
 read-requires : tie.Need-read-requires
 read-requires c κs = search needs
 
-shared-slice-read-taken-read : tie.Need-shared-slice-read-taken-read
-shared-slice-read-taken-read c = search needs
+word-requires : tie.Need-word-requires
+word-requires c κs = search needs
 
 taken-read-requires : tie.Need-taken-read-requires
 taken-read-requires c κs = search needs
@@ -22,7 +22,7 @@ all-zero-requires c κs = search needs
 
 returns : tie.Need-returns
 unfolding slotOk
-returns c = rw (sym (c .before .before .before .before .is-present .ensures), c .before .before .before .if1 .taken, sym (c .before .before .read .ensures)) (c .taken-read .ensures)
+returns c = rw (sym (c .before .before .before .before .is-present .ensures), c .before .before .before .if1 .taken, sym (c .before .before .read .ensures), sym (c .before .word .ensures)) (c .taken-read .ensures)
 
 returns-2 : tie.Need-returns-2
 unfolding slotOk
@@ -34,7 +34,7 @@ slot-ok-spec =
     (tie.spec
     is-present-requires
     read-requires
-    shared-slice-read-taken-read
+    word-requires
     taken-read-requires
     all-zero-requires
     returns

@@ -1,9 +1,9 @@
--- `history_rows::slots::word` meets its contract. Assumes nothing.
+-- `slots::slot::word` meets its contract. Assumes nothing.
 use mathlib.Core.Path.{sym}
 use lib.ListN.{List·getD-eq-default}
 use borrow.Author.Needs.{needs}
-use Rattle.history_rows.proofs.slots.word.Statement.{statement}
-use Rattle.history_rows.proofs.slots.word.Tie as tie
+use Rattle.slots.proofs.slot.word.Statement.{statement}
+use Rattle.slots.proofs.slot.word.Tie as tie
 
 mul-result : tie.Need-mul-result
 mul-result c = search needs
