@@ -7,8 +7,8 @@ use lib.ListN.{getD}
 use lib.Ieee.{Float, nan, binary64, toBits, ofBits}
 use Rattle.arith.specs.Lists.{every, placesOf}
 use Rattle.distribution.specs.declared.Distribution.{Distribution}
-use Rattle.common.specs.declared.InternalBounds.{InternalBounds}
-use Rattle.common.specs.Bounds.{boundsOf}
+use Rattle.encoding.specs.declared.InternalBounds.{InternalBounds}
+use Rattle.encoding.specs.Bounds.{boundsOf}
 use Rattle.dimensions.specs.declared.DimensionInfo.{DimensionInfo}
 
 -- what lies past the end of a list of dimensions; an array of 20 has none of it

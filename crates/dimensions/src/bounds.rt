@@ -3,8 +3,8 @@ ghost use mathlib.Core.Path.{_≡_};
 ghost use Prim.Native.Nat.{_<_};
 ghost use Rattle.dimensions.specs.Dimensions.{sameBits, boundsAre, continuousOf, withBounds, dimensionOf, dimensionOk, dimensionsOk};
 use crate::DimensionInfo;
-use common::InternalBounds;
 use distribution::Distribution;
+use encoding::InternalBounds;
 
 // Whether two floats have the same bits.
 fn same_bits(a: f64, b: f64) -> bool
@@ -50,7 +50,7 @@ fn with_bounds(distribution: Distribution, bounds: InternalBounds) -> DimensionI
 pub fn dimension(distribution: Distribution) -> DimensionInfo
     ensures { λ r. ⌜ r ≡ dimensionOf distribution ⌝ }
 {
-    with_bounds(distribution, common::internal_bounds(distribution))
+    with_bounds(distribution, encoding::internal_bounds(distribution))
 }
 
 // Whether a dimension has its distribution's bounds.
@@ -58,7 +58,7 @@ fn dimension_ok(d: DimensionInfo) -> bool
     ensures { λ r. ⌜ r ≡ dimensionOk d ⌝ }
 {
     let distribution = d.distribution;
-    bounds_are(common::internal_bounds(distribution), d.lo, d.hi)
+    bounds_are(encoding::internal_bounds(distribution), d.lo, d.hi)
 }
 
 // Whether they are at most 20, each with its distribution's bounds.

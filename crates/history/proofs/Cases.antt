@@ -7,8 +7,8 @@ use lib.ListN.{take}
 use lib.IntN.{pos}
 use lib.Ieee.{Float, binary64, ofBits, ofInt, toBits, neg, le, lt, eq, sub, div, round}
 use Rattle.arith.specs.Lists.{every, grown, filled, placeOf, placesOf}
-use Rattle.common.specs.Bounds.{endsOf, boundsOf}
-use Rattle.common.specs.Encode.{encodedOf, toInternalOf}
+use Rattle.encoding.specs.Bounds.{endsOf, boundsOf}
+use Rattle.encoding.specs.Encode.{encodedOf, toInternalOf}
 use Rattle.distribution.specs.declared.Distribution.{Distribution}
 use Rattle.gp_model.specs.Scaling.{toNormalizedOf}
 use Rattle.distribution.specs.Equal.{equalOf, floatEqual, intEqual}

@@ -67,7 +67,7 @@ fn entry(d: DimensionInfo, slot: &[u64]) -> f64
     ensures { λ r. ⌜ r ≡ entryOf d (now (slot .entry)) ⌝ }
 {
     let distribution = d.distribution;
-    let internal = common::to_internal(slots::value(slot), distribution);
+    let internal = encoding::to_internal(slots::value(slot), distribution);
     gp_model::to_normalized(arith::value(internal), d.lo, d.hi)
 }
 

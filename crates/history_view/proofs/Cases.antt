@@ -7,8 +7,8 @@ use mathlib.Core.Bool.{true, false}
 use mathlib.Core.List.{[], _∷_, _++_, List·Permᴰ·swap}
 use lib.Ieee.{ofBits, ofInt, toBits, neg, le, lt, eq, sub, div, round}
 use Rattle.arith.specs.Lists.{every, grown, placeOf, placesOf}
-use Rattle.common.specs.Bounds.{endsOf, boundsOf}
-use Rattle.common.specs.Encode.{encodedOf, toInternalOf}
+use Rattle.encoding.specs.Bounds.{endsOf, boundsOf}
+use Rattle.encoding.specs.Encode.{encodedOf, toInternalOf}
 use Rattle.gp_model.specs.Scaling.{toNormalizedOf}
 use Rattle.distribution.specs.Equal.{equalOf, floatEqual, intEqual}
 use Rattle.distribution.specs.Shape.{shapeOf, floatStep, intShape, intStep, categoricalShape}

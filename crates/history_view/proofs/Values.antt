@@ -15,9 +15,9 @@ use Rattle.distribution.specs.Shape.{shapeOf}
 use Rattle.distribution.specs.Taken.{takenOf, valueOf}
 use Rattle.distribution.proofs.Equals.{equal-taken}
 use Rattle.distribution.proofs.Facts.{parts}
-use Rattle.common.specs.declared.InternalBounds.{InternalBounds}
-use Rattle.common.specs.Bounds.{endsOf, boundsOf}
-use Rattle.common.proofs.EndLaws.{FloatsFit, continuous, bounds}
+use Rattle.encoding.specs.declared.InternalBounds.{InternalBounds}
+use Rattle.encoding.specs.Bounds.{endsOf, boundsOf}
+use Rattle.encoding.proofs.EndLaws.{FloatsFit, continuous, bounds}
 use Rattle.common.proofs.Facts.{ValueFits, encode-accepted, apart, largest, normalised}
 use Rattle.gp_model.specs.Scaling.{toNormalizedOf}
 use Rattle.dimensions.specs.declared.DimensionInfo.{DimensionInfo}

@@ -19,11 +19,11 @@ use Rattle.rng_util.specs.Generator.{nextOf, movedOf}
 use Rattle.distribution.specs.declared.Distribution.{Distribution}
 use Rattle.distribution.specs.declared.ParamValue.{ParamValue}
 use Rattle.distribution.specs.Shape.{shapeOf, intShape, intStep, categoricalShape}
-use Rattle.common.specs.Bounds.{boundsOf, endsOf}
+use Rattle.encoding.specs.Bounds.{boundsOf, endsOf}
 use Rattle.distribution.specs.Equal.{equalOf, intEqual}
 use Rattle.distribution.specs.Taken.{takenOf, valueOf, intTaken}
 use Rattle.distribution_words.specs.Words.{readOf, checkedOf, intRead}
-use Rattle.common.specs.Encode.{encodedOf, toInternalOf}
+use Rattle.encoding.specs.Encode.{encodedOf, toInternalOf}
 use Rattle.common.specs.Decode.{fromInternalOf, decodedOf}
 use Rattle.common.specs.Grid.{intGrid}
 use Rattle.common.specs.Random.{sampleRandomOf, randomOf, intRandom, linearIntRandom, categoricalRandom, fromWhole}

@@ -16,7 +16,7 @@ use Rattle.distribution_words.specs.RoundTrip.{Held}
 use Rattle.distribution.specs.Shape.{shapeOf}
 use Rattle.common.specs.declared.RandomDraw.{RandomDraw}
 use Rattle.common.specs.Random.{sampleRandomOf}
-use Rattle.common.proofs.EndLaws.{FloatsFit}
+use Rattle.encoding.proofs.EndLaws.{FloatsFit}
 use Rattle.common.proofs.Facts.{random-accepted}
 use Rattle.dimensions.specs.declared.DimensionInfo.{DimensionInfo}
 use Rattle.history.specs.declared.Training.{Training}

@@ -10,7 +10,7 @@ use Rattle.rng_util.specs.Generator.{nextOf as step}
 use Rattle.distribution.specs.declared.ParamValue.{ParamValue}
 use Rattle.distribution.specs.Shape.{shapeOf, intShape, intStep, categoricalShape}
 use Rattle.distribution_words.specs.Words.{readOf, checkedOf, intRead, categoricalRead}
-use Rattle.common.specs.Bounds.{boundsOf, endsOf}
+use Rattle.encoding.specs.Bounds.{boundsOf, endsOf}
 use Rattle.common.specs.Random.{sampleRandomOf, randomOf, intRandom, linearIntRandom, categoricalRandom, fromWhole}
 use Rattle.dimensions.specs.Dimensions.{dimensionOk, dimensionsOk, columnsOf}
 use Rattle.history.specs.Mapping.{numberOf}

@@ -19,9 +19,9 @@ use Rattle.rng_util.proofs.Nonzero.{Nonzero, nonzero-test}
 use Rattle.distribution.specs.declared.Distribution.{Distribution}
 use Rattle.distribution_words.specs.RoundTrip.{Held}
 use Rattle.distribution.specs.Shape.{shapeOf}
-use Rattle.common.specs.declared.InternalBounds.{InternalBounds}
-use Rattle.common.specs.Bounds.{boundsOf}
-use Rattle.common.proofs.EndLaws.{HasEnds, bounds, choice-bounds}
+use Rattle.encoding.specs.declared.InternalBounds.{InternalBounds}
+use Rattle.encoding.specs.Bounds.{boundsOf}
+use Rattle.encoding.proofs.EndLaws.{HasEnds, bounds, choice-bounds}
 use Rattle.dimensions.specs.declared.DimensionInfo.{DimensionInfo}
 use Rattle.dimensions.specs.Dimensions.{boundsAre, sameBits, withBounds, noDimension, dimensionAt, dimensionOf, dimensionOk, dimensionsOk}
 use Rattle.history_view.proofs.Values.{floats-fit}

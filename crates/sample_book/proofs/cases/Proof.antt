@@ -10,7 +10,7 @@ use Rattle.distribution.specs.Equal.{equalOf, intEqual}
 use Rattle.distribution.specs.Taken.{takenOf, valueOf, intTaken}
 use Rattle.distribution_words.specs.Words.{readOf, checkedOf, intRead}
 use Rattle.distribution.specs.Shape.{shapeOf, intShape, intStep, categoricalShape}
-use Rattle.common.specs.Bounds.{boundsOf, endsOf}
+use Rattle.encoding.specs.Bounds.{boundsOf, endsOf}
 use Rattle.common.specs.Decode.{fromInternalOf, decodedOf}
 use Rattle.common.specs.Grid.{intGrid}
 use Rattle.common.specs.Random.{sampleRandomOf, randomOf, intRandom, linearIntRandom, categoricalRandom, fromWhole}

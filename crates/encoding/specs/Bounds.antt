@@ -7,7 +7,7 @@ use Rattle.logarithm.specs.Ln.{lnOf}
 use Rattle.arith.specs.Outcome.{pick}
 use Rattle.distribution.specs.declared.Distribution.{Distribution}
 use Rattle.distribution.specs.Shape.{shapeOf}
-use Rattle.common.specs.declared.InternalBounds.{InternalBounds}
+use Rattle.encoding.specs.declared.InternalBounds.{InternalBounds}
 
 -- two answers, or the first refusal
 abbrev pub pairOf : Outcome → Outcome → InternalBounds

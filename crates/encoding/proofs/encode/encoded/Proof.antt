@@ -11,12 +11,12 @@ use Rattle.distribution.specs.declared.CategoricalDistribution.{CategoricalDist
 use Rattle.distribution.specs.declared.Distribution.{Distribution}
 use Rattle.distribution.specs.declared.ParamValue.{ParamValue}
 use Rattle.distribution.specs.Taken.{takenOf}
-use Rattle.common.specs.Bounds.{scaleOf}
-use Rattle.common.specs.Encode.{encodedOf, zero}
+use Rattle.encoding.specs.Bounds.{scaleOf}
+use Rattle.encoding.specs.Encode.{encodedOf, zero}
 use Rattle.distribution.proofs.Whole.{ReadBack}
 use borrow.Author.Needs.{needs}
-use Rattle.common.proofs.encode.encoded.Statement.{statement}
-use Rattle.common.proofs.encode.encoded.Tie as tie
+use Rattle.encoding.proofs.encode.encoded.Statement.{statement}
+use Rattle.encoding.proofs.encode.encoded.Tie as tie
 
 whole : (c : tie.After-known-told4) → ReadBack (c .before .v2 .given .0 .0)
 whole c = search needs

@@ -7,7 +7,7 @@ use Rattle.distribution.specs.declared.Distribution.{Distribution}
 use Rattle.distribution.specs.declared.ParamValue.{ParamValue}
 use Rattle.distribution.specs.Shape.{shapeOf}
 use Rattle.distribution.specs.Taken.{takenOf}
-use Rattle.common.specs.Bounds.{scaleOf}
+use Rattle.encoding.specs.Bounds.{scaleOf}
 
 abbrev pub zero : Outcome
 zero = Value (ofBits binary64 0)

@@ -1,9 +1,9 @@
 -- `ends` meets its contract, by the kind. Assumes nothing.
-use Rattle.common.specs.Bounds.{endsOf}
+use Rattle.encoding.specs.Bounds.{endsOf}
 use Rattle.distribution.proofs.Whole.{ReadBack}
 use borrow.Author.Needs.{needs}
-use Rattle.common.proofs.bounds.ends.Statement.{statement}
-use Rattle.common.proofs.bounds.ends.Tie as tie
+use Rattle.encoding.proofs.bounds.ends.Statement.{statement}
+use Rattle.encoding.proofs.bounds.ends.Tie as tie
 
 low : (c : tie.After-known-told2) → ReadBack (c .before .d2 .given .0 .0 .low)
 low c = search needs

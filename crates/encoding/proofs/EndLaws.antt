@@ -25,8 +25,8 @@ use Rattle.distribution.specs.declared.CategoricalDistribution.{CategoricalDist
 use Rattle.distribution.specs.declared.Distribution.{Distribution}
 use Rattle.distribution.specs.Shape.{power, shapeOf, floatShape, intShape}
 use Rattle.distribution.proofs.Facts.{Bounded, float-rules, int-rules}
-use Rattle.common.specs.declared.InternalBounds.{InternalBounds}
-use Rattle.common.specs.Bounds.{pairOf, scaleOf, endsOf, boundsOf}
+use Rattle.encoding.specs.declared.InternalBounds.{InternalBounds}
+use Rattle.encoding.specs.Bounds.{pairOf, scaleOf, endsOf, boundsOf}
 
 -- ---- what a distribution has
 

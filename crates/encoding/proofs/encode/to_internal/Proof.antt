@@ -1,10 +1,10 @@
 -- `common::to_internal` meets its contract. Assumes nothing.
 use mathlib.Core.Path.{_∙_, sym}
 use borrow.Author.Tests.{not-true, not-false}
-use Rattle.common.specs.Encode.{toInternalOf}
+use Rattle.encoding.specs.Encode.{toInternalOf}
 use borrow.Author.Needs.{needs}
-use Rattle.common.proofs.encode.to_internal.Statement.{statement}
-use Rattle.common.proofs.encode.to_internal.Tie as tie
+use Rattle.encoding.proofs.encode.to_internal.Statement.{statement}
+use Rattle.encoding.proofs.encode.to_internal.Tie as tie
 
 well-formed-requires : tie.Need-well-formed-requires
 well-formed-requires c κs = search needs

@@ -1,8 +1,8 @@
 -- `scale` meets its contract. Assumes nothing.
 use mathlib.Core.Path.{_∙_}
 use borrow.Author.Needs.{needs}
-use Rattle.common.proofs.bounds.scale.Statement.{statement}
-use Rattle.common.proofs.bounds.scale.Tie as tie
+use Rattle.encoding.proofs.bounds.scale.Statement.{statement}
+use Rattle.encoding.proofs.bounds.scale.Tie as tie
 
 ln-requires : tie.Need-ln-requires
 ln-requires c κs = search needs

@@ -1,10 +1,10 @@
 -- `common::internal_bounds` meets its contract. Assumes nothing.
 use mathlib.Core.Path.{_∙_, sym}
 use borrow.Author.Tests.{not-true, not-false}
-use Rattle.common.specs.Bounds.{boundsOf}
+use Rattle.encoding.specs.Bounds.{boundsOf}
 use borrow.Author.Needs.{needs}
-use Rattle.common.proofs.bounds.internal_bounds.Statement.{statement}
-use Rattle.common.proofs.bounds.internal_bounds.Tie as tie
+use Rattle.encoding.proofs.bounds.internal_bounds.Statement.{statement}
+use Rattle.encoding.proofs.bounds.internal_bounds.Tie as tie
 
 well-formed-requires : tie.Need-well-formed-requires
 well-formed-requires c κs = search needs

@@ -1,6 +1,6 @@
 // A parameter's value in the model's space.
 ghost use mathlib.Core.Path.{_≡_};
-ghost use Rattle.common.specs.Encode.{encodedOf, toInternalOf};
+ghost use Rattle.encoding.specs.Encode.{encodedOf, toInternalOf};
 use crate::bounds::scale;
 use arith::Outcome;
 use distribution::Distribution;

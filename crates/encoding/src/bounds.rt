@@ -1,6 +1,6 @@
 // The ends of a distribution in the model's space.
 ghost use mathlib.Core.Path.{_≡_};
-ghost use Rattle.common.specs.Bounds.{scaleOf, pairOf, endsOf, boundsOf};
+ghost use Rattle.encoding.specs.Bounds.{scaleOf, pairOf, endsOf, boundsOf};
 use crate::InternalBounds;
 use arith::Outcome;
 use distribution::Distribution;
@@ -29,7 +29,7 @@ fn pair(lo: Outcome, hi: Outcome) -> InternalBounds
 }
 
 // The ends of a well-formed distribution.
-pub(crate) fn ends(d: Distribution) -> InternalBounds
+pub fn ends(d: Distribution) -> InternalBounds
     ensures { λ r. ⌜ r ≡ endsOf d ⌝ }
 {
     match d {

@@ -1,7 +1,7 @@
 -- `pair` meets its contract. Assumes nothing.
 use borrow.Author.Needs.{needs}
-use Rattle.common.proofs.bounds.pair.Statement.{statement}
-use Rattle.common.proofs.bounds.pair.Tie as tie
+use Rattle.encoding.proofs.bounds.pair.Statement.{statement}
+use Rattle.encoding.proofs.bounds.pair.Tie as tie
 
 enum-known-lo : tie.Need-enum-known-lo
 enum-known-lo c = search needs
