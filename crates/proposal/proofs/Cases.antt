@@ -47,7 +47,8 @@ use Rattle.settings.specs.Settings.{settingsOk}
 use Rattle.proposal.specs.declared.Proposal.{Proposal}
 use Rattle.proposal.specs.Points.{pointFor}
 use Rattle.proposal.specs.Proposal.{candidateOf, candidateNumber, computeCandidateOf}
-use Rattle.proposal.specs.Values.{emptyStored, stepOf, walkOf}
+use Rattle.dimensions.specs.Empty.{emptyStored}
+use Rattle.proposal.specs.Values.{stepOf, walkOf}
 
 -- that start-up count, no candidates, no noise, one slot
 abbrev settings : ℕ → Settings

@@ -48,10 +48,11 @@ use Rattle.dimensions.specs.Dimensions.{dimensionAt, continuousOf, dimensionOk,
 use Rattle.history_view.proofs.Values.{Column, floats-fit, bounds-shape, shape, ends}
 use Rattle.settings.specs.declared.Settings.{Settings}
 use Rattle.proposal.specs.declared.Point.{Point}
-use Rattle.proposal.specs.declared.Stored.{Stored}
+use Rattle.dimensions.specs.declared.Stored.{Stored}
 use Rattle.proposal.specs.Points.{fitFor, searchPoint, unitPoint, pointFor}
 use Rattle.proposal.specs.Proposal.{fromPoint, atRandom, candidateOf}
-use Rattle.proposal.specs.Values.{emptyStored, decodeOf, stepOf, walkOf}
+use Rattle.dimensions.specs.Empty.{emptyStored}
+use Rattle.proposal.specs.Values.{decodeOf, stepOf, walkOf}
 use Rattle.proposal.proofs.Moving.{fitted, searchable, walk-moves, point-moves}
 use Rattle.proposal.proofs.Walk.{walk-length, columns-next}
 

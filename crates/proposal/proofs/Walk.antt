@@ -14,7 +14,8 @@ use Rattle.common.specs.Random.{sampleRandomOf}
 use Rattle.common.proofs.Moves.{Moved, random-moves}
 use Rattle.dimensions.specs.declared.DimensionInfo.{DimensionInfo}
 use Rattle.dimensions.specs.Dimensions.{dimensionAt, continuousOf, columnsOf}
-use Rattle.proposal.specs.Values.{emptyStored, decodeOf, stepOf, walkOf}
+use Rattle.dimensions.specs.Empty.{emptyStored}
+use Rattle.proposal.specs.Values.{decodeOf, stepOf, walkOf}
 
 pub step-moves : (given : Bool) (d : DimensionInfo) (u : Float) (w : ℕ) → Moved w (stepOf given d u w)
 unfolding stepOf

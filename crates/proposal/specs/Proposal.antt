@@ -13,7 +13,8 @@ use Rattle.settings.specs.Settings.{settingsOk}
 use Rattle.proposal.specs.declared.Point.{Point}
 use Rattle.proposal.specs.declared.Proposal.{Proposal}
 use Rattle.proposal.specs.Points.{pointFor}
-use Rattle.proposal.specs.Values.{emptyStored, Walk, walkOf}
+use Rattle.dimensions.specs.Empty.{emptyStored}
+use Rattle.proposal.specs.Values.{Walk, walkOf}
 
 -- a walk's values after some words
 abbrev pub proposedOf : ℕ → Walk → Proposal

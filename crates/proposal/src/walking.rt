@@ -4,10 +4,10 @@ ghost use mathlib.Core.Bool.{_&&_, cond};
 ghost use Prim.Native.Nat.{_≤_};
 ghost use Rattle.dimensions.specs.Dimensions.{continuousOf};
 ghost use Rattle.proposal.specs.Values.{decodeOf, stepOf, walkOf, valuesIn};
-use crate::Stored;
 use crate::Values;
 use common::RandomDraw;
 use dimensions::DimensionInfo;
+use dimensions::Stored;
 use distribution::Distribution;
 use distribution::ParamValue;
 

@@ -24,7 +24,8 @@ use Rattle.history_rows.specs.Tests.{refusalOf}
 use Rattle.history_view.specs.View.{viewOf}
 use Rattle.proposal.specs.declared.Proposal.{Proposal}
 use Rattle.proposal.specs.Proposal.{computeCandidateOf}
-use Rattle.proposal.specs.Values.{emptyStored, decodeOf}
+use Rattle.dimensions.specs.Empty.{emptyStored}
+use Rattle.proposal.specs.Values.{decodeOf}
 use Rattle.proposal.proofs.Decoded.{Decodes, StoresEarliest, stores-earliest}
 use Rattle.sampler_state.specs.declared.Place.{Place}
 use Rattle.sampler.specs.declared.Sampled.{Sampled}

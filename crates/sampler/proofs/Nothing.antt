@@ -31,7 +31,7 @@ use Rattle.settings.specs.declared.Settings.{Settings}
 use Rattle.settings.specs.Settings.{settingsOk}
 use Rattle.proposal.specs.declared.Proposal.{Proposal}
 use Rattle.proposal.specs.Proposal.{candidateNumber, computeCandidateOf}
-use Rattle.proposal.specs.Values.{emptyStored}
+use Rattle.dimensions.specs.Empty.{emptyStored}
 use Rattle.proposal.proofs.Numbers.{by-history, accepted-is}
 use Rattle.proposal.proofs.Ranges.{InRange, fit-number, random-ranged, candidate-number, candidate-ranged}
 use Rattle.sampler_state.specs.declared.Sampler.{Sampler}

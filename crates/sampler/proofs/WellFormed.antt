@@ -28,7 +28,7 @@ use Rattle.settings.specs.declared.Settings.{Settings}
 use Rattle.settings.specs.Settings.{settingsOk}
 use Rattle.proposal.specs.declared.Proposal.{Proposal}
 use Rattle.proposal.specs.Proposal.{computeCandidateOf}
-use Rattle.proposal.specs.Values.{emptyStored}
+use Rattle.dimensions.specs.Empty.{emptyStored}
 use Rattle.proposal.proofs.Moving.{compute-moves}
 use Rattle.sampler_state.specs.declared.Place.{Place}
 use Rattle.sampler.specs.declared.Sampled.{Sampled}

@@ -2,10 +2,10 @@
 ghost use mathlib.Core.Path.{_≡_};
 ghost use Prim.Native.Nat.{_<_};
 ghost use lib.ListN.{getD};
-ghost use Rattle.proposal.specs.Values.{emptyStored};
+ghost use Rattle.dimensions.specs.Empty.{emptyStored};
 ghost use Rattle.sampler_state.specs.State.{placeAt};
+use dimensions::Stored;
 use distribution::ParamValue;
-use proposal::Stored;
 use sampler_state::Place;
 
 // Value j of a place.

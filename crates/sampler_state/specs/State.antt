@@ -15,8 +15,8 @@ use Rattle.dimensions.specs.declared.DimensionInfo.{DimensionInfo}
 use Rattle.dimensions.specs.Dimensions.{dimensionAt, dimensionsOk}
 use Rattle.settings.specs.declared.Settings.{Settings}
 use Rattle.settings.specs.Settings.{settingsOk}
-use Rattle.proposal.specs.declared.Stored.{Stored}
-use Rattle.proposal.specs.Values.{emptyStored}
+use Rattle.dimensions.specs.declared.Stored.{Stored}
+use Rattle.dimensions.specs.Empty.{emptyStored}
 use Rattle.sampler_state.specs.declared.Place.{Place}
 use Rattle.sampler_state.specs.declared.Sampler.{Sampler}
 use Rattle.sampler_state.specs.declared.Made.{Made}

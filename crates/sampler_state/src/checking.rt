@@ -7,16 +7,16 @@ ghost use lib.ListN.{getD};
 ghost use lib.Signed.{leZ};
 ghost use Rattle.arith.specs.Lists.{every};
 ghost use Rattle.dimensions.specs.Dimensions.{dimensionAt};
-ghost use Rattle.proposal.specs.Values.{emptyStored};
+ghost use Rattle.dimensions.specs.Empty.{emptyStored};
 ghost use Rattle.sampler_state.specs.State.{placeAt, taken, holds, storedOk, placeOk, trialsOnce, samplerOk};
 use crate::Place;
 use crate::Sampler;
 use crate::places;
 use dimensions::DimensionInfo;
+use dimensions::Stored;
 use distribution::Distribution;
 use distribution::IntDistribution;
 use distribution::ParamValue;
-use proposal::Stored;
 
 // Whether z is from lo to hi.
 fn is_between(lo: i64, hi: i64, z: i64) -> bool

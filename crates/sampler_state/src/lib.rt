@@ -5,12 +5,12 @@ pub mod places;
 
 pub use checking::sampler_ok;
 use dimensions::DimensionInfo;
+use dimensions::Stored;
 pub use making::build;
 pub use making::empty_place;
 pub use places::free_place;
 pub use places::taken_count;
 pub use places::trial_place;
-use proposal::Stored;
 use settings::Settings;
 
 // A progress place: the trial, its values and the dimension to serve next, 0 where the place is free.

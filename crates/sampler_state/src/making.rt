@@ -5,10 +5,10 @@ use crate::Made;
 use crate::Place;
 use crate::Sampler;
 use dimensions::DimensionInfo;
+use dimensions::Stored;
 use distribution::CategoricalDistribution;
 use distribution::Distribution;
 use distribution::ParamValue;
-use proposal::Stored;
 use settings::Settings;
 
 // A free place.

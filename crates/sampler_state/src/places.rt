@@ -4,8 +4,8 @@ ghost use mathlib.Core.Bool.{cond};
 ghost use Prim.Native.Nat.{_<_};
 ghost use Rattle.sampler_state.specs.State.{taken, holds, trialPlace, freePlace, takenCount};
 use crate::Place;
+use dimensions::Stored;
 use distribution::ParamValue;
-use proposal::Stored;
 
 // Whether a place is taken.
 pub(crate) fn is_taken(p: Place) -> bool

@@ -9,8 +9,8 @@ use Rattle.arith.specs.Lists.{every}
 use Rattle.arith.proofs.Lists.{every-not}
 use borrow.Author.Tests.{not-true, not-false}
 use Rattle.dimensions.specs.Dimensions.{dimensionAt}
-use Rattle.proposal.specs.declared.Stored.{Stored}
-use Rattle.proposal.specs.Values.{emptyStored}
+use Rattle.dimensions.specs.declared.Stored.{Stored}
+use Rattle.dimensions.specs.Empty.{emptyStored}
 use Rattle.sampler_state.specs.State.{storedOk}
 use Rattle.sampler_state.proofs.Elements.{same-element}
 use borrow.Author.Needs.{needs}
