@@ -5,11 +5,6 @@ pub mod HalfUnit
 pub mod Held
 pub mod Horner
 pub mod Lists
-pub mod LnLaws
-pub mod LnMono
-pub mod LnSize
-pub mod LnSplit
-pub mod LnTerm
 pub mod Mono
 pub mod Nearest
 pub mod Order

@@ -2,7 +2,6 @@ pub mod Bounds
 pub mod Choice
 pub mod Exp
 pub mod Lists
-pub mod Ln
 pub mod Outcome
 pub mod RootParts
 pub mod Rooted

@@ -5,7 +5,6 @@ ghost use Rattle.arith.specs.Outcome.{numberOf, wordOf, valueOf};
 
 pub mod choice;
 pub mod exponential;
-pub mod logarithm;
 pub mod root;
 pub mod rounding;
 pub mod sums;
@@ -17,7 +16,6 @@ pub use choice::least;
 pub use choice::lesser;
 pub use choice::positive_part;
 pub use exponential::exp;
-pub use logarithm::ln;
 pub use root::sqrt;
 pub use root::sqrt_is_rounded;
 pub use rounding::floor;

@@ -28,7 +28,7 @@ use Rattle.distribution.specs.Taken.{takenOf}
 use Rattle.distribution.proofs.Facts.{FloatRules, FloatStepRules, float-rules, int-rules}
 use Rattle.distribution.proofs.Whole.{leZ-refl}
 use Rattle.common.specs.Grid.{raisedTo, clampOf, floatGrid, raisedToZ, clampZ}
-use Rattle.common.proofs.EndLaws.{leZ-trans}
+use Rattle.encoding.proofs.EndLaws.{leZ-trans}
 use Rattle.common.proofs.Domain.{round-within}
 
 -- ---- the clamps

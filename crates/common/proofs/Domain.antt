@@ -35,8 +35,8 @@ use Rattle.distribution.specs.declared.IntDistribution.{IntDistribution}
 use Rattle.distribution.specs.declared.Distribution.{Distribution}
 use Rattle.distribution.specs.Shape.{power, shapeOf, intShape}
 use Rattle.distribution.proofs.Facts.{Bounded, IntRules, int-rules}
-use Rattle.common.specs.declared.InternalBounds.{InternalBounds}
-use Rattle.common.specs.Bounds.{endsOf, boundsOf}
+use Rattle.encoding.specs.declared.InternalBounds.{InternalBounds}
+use Rattle.encoding.specs.Bounds.{endsOf, boundsOf}
 use Rattle.common.specs.Decode.{inside, one, unscaleOf}
 use Rattle.common.specs.DecodeParts.{Decodable}
 use Rattle.common.specs.Grid.{roundZ, intGrid}
@@ -44,7 +44,7 @@ use Rattle.common.specs.GridParts.{stepsTo, StepFits, OutcomeFits}
 use Rattle.common.specs.Random.{rangeOf, logRange}
 use Rattle.common.specs.RandomParts.{LogFits}
 use Rattle.common.proofs.Saturate.{exact}
-use Rattle.common.proofs.EndLaws.{FloatsFit, logScale, continuous, limit, EndRules, HasEnds, bounds, whole-within, well-formed}
+use Rattle.encoding.proofs.EndLaws.{FloatsFit, logScale, continuous, limit, EndRules, HasEnds, bounds, whole-within, well-formed}
 
 -- ---- powers of two
 

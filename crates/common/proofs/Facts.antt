@@ -15,7 +15,7 @@ use Rattle.arith.specs.declared.Outcome.the-variants.{Value}
 use Rattle.arith.specs.Bounds.{abs, Within, Between}
 use Rattle.arith.proofs.Order as order
 use Rattle.arith.proofs.Within.{bound, sub-in, div-in, widen, within-finite}
-use Rattle.arith.proofs.LnLaws.{ln-taken}
+use Rattle.logarithm.proofs.LnLaws.{ln-taken}
 use Rattle.rng_util.specs.Generator.{nextOf}
 use Rattle.rng_util.specs.Draws.{rangeOk, wholeOf, unitDrawOf, wholeDrawOf}
 use Rattle.rng_util.proofs.Nonzero.{Nonzero, nonzero-test}
@@ -28,14 +28,14 @@ use Rattle.distribution.specs.declared.ParamValue.{ParamValue}
 use Rattle.distribution.specs.Shape.{power, floatShape, intShape, shapeOf}
 use Rattle.distribution.specs.Taken.{takenOf}
 use Rattle.distribution.proofs.Facts.{float-rules, int-rules, categorical-rules, float-taken, int-taken}
-use Rattle.common.specs.declared.InternalBounds.{InternalBounds}
+use Rattle.encoding.specs.declared.InternalBounds.{InternalBounds}
 use Rattle.common.specs.declared.RandomDraw.{RandomDraw}
-use Rattle.common.specs.Bounds.{scaleOf, endsOf, boundsOf}
+use Rattle.encoding.specs.Bounds.{scaleOf, endsOf, boundsOf}
 use Rattle.common.specs.Decode.{one, inside, floatOf, intOf, decodedOf, fromInternalOf}
-use Rattle.common.specs.Encode.{toInternalOf}
+use Rattle.encoding.specs.Encode.{toInternalOf}
 use Rattle.common.specs.Grid.{clampOf, floatGrid, clampZ, intGrid}
 use Rattle.common.specs.Random.{settled, fromUnit, fromWhole, rangeOf, logRange, logFloat, logFloatRandom, steppedFloatRandom, linearFloatRandom, floatRandom, logIntRandom, steppedIntRandom, linearIntRandom, intRandom, categoricalRandom, randomOf, sampleRandomOf}
-use Rattle.common.proofs.EndLaws.{FloatFits, FloatsFit, logScale, continuous, limit, EndRules, Scalable, scaled, looser, whole-scalable, end-rules, has-ends}
+use Rattle.encoding.proofs.EndLaws.{FloatFits, FloatsFit, logScale, continuous, limit, EndRules, Scalable, scaled, looser, whole-scalable, end-rules, has-ends}
 use Rattle.common.proofs.Domain.{linear-range, unscaled, unit-between, log-drawn}
 use Rattle.common.proofs.Clamp.{clamp-between, clamp-whole, float-grid-real, take-float, float-inside, int-inside}
 use Rattle.common.proofs.Steps.{in-range, up-to}

@@ -18,7 +18,7 @@ use Rattle.distribution.specs.declared.Distribution.{Distribution}
 use Rattle.distribution.specs.declared.ParamValue.{ParamValue}
 use Rattle.distribution.specs.Shape.{shapeOf}
 use Rattle.common.specs.declared.RandomDraw.{RandomDraw}
-use Rattle.common.specs.Bounds.{endsOf}
+use Rattle.encoding.specs.Bounds.{endsOf}
 use Rattle.common.specs.Decode.{intOf}
 use Rattle.common.specs.Random.{rangeOf, logRange, logFloat, refusedOf, settled, finished, fromUnit, fromWhole, logFloatRandom, steppedFloatRandom, linearFloatRandom, floatRandom, logIntRandom, steppedIntRandom, linearIntRandom, intRandom, categoricalRandom, randomOf, sampleRandomOf}
 

@@ -10,8 +10,8 @@ use Rattle.distribution.specs.declared.FloatDistribution.{FloatDistribution}
 use Rattle.distribution.specs.declared.IntDistribution.{IntDistribution}
 use Rattle.distribution.specs.declared.Distribution.{Distribution}
 use Rattle.distribution.specs.declared.ParamValue.{ParamValue}
-use Rattle.common.specs.declared.InternalBounds.{InternalBounds}
-use Rattle.common.specs.Bounds.{boundsOf}
+use Rattle.encoding.specs.declared.InternalBounds.{InternalBounds}
+use Rattle.encoding.specs.Bounds.{boundsOf}
 use Rattle.common.specs.Grid.{clampOf, floatGrid, clampZ, intGrid}
 
 -- a value, or on log scale its exponential

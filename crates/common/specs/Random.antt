@@ -15,9 +15,9 @@ use Rattle.distribution.specs.declared.IntDistribution.{IntDistribution}
 use Rattle.distribution.specs.declared.Distribution.{Distribution}
 use Rattle.distribution.specs.declared.ParamValue.{ParamValue}
 use Rattle.distribution.specs.Shape.{shapeOf}
-use Rattle.common.specs.declared.InternalBounds.{InternalBounds}
+use Rattle.encoding.specs.declared.InternalBounds.{InternalBounds}
 use Rattle.common.specs.declared.RandomDraw.{RandomDraw}
-use Rattle.common.specs.Bounds.{endsOf}
+use Rattle.encoding.specs.Bounds.{endsOf}
 use Rattle.common.specs.Decode.{intOf}
 use Rattle.common.specs.Grid.{clampOf, floatGrid}
 

@@ -6,7 +6,7 @@ use lib.Signed.{leZ}
 use Rattle.rng_util.specs.Draws.{unitDrawOf}
 use Rattle.distribution.specs.declared.IntDistribution.{IntDistribution}
 use Rattle.distribution.specs.declared.Distribution.{Distribution}
-use Rattle.common.specs.Bounds.{endsOf}
+use Rattle.encoding.specs.Bounds.{endsOf}
 use Rattle.common.specs.GridParts.{OutcomeFits}
 use Rattle.common.specs.Random.{logRange}
 

@@ -3,8 +3,6 @@ ghost use mathlib.Core.Path.{_≡_};
 ghost use Rattle.common.specs.Decode.{unscaleOf, inside, floatOf, intOf, decodedOf, fromInternalOf};
 ghost use Rattle.common.specs.DecodeParts.{Decodable};
 ghost use Rattle.common.specs.GridParts.{OutcomeFits};
-use crate::InternalBounds;
-use crate::bounds::internal_bounds;
 use crate::grid::clamp;
 use crate::grid::float_grid;
 use crate::grid::int_clamp;
@@ -14,6 +12,8 @@ use distribution::Distribution;
 use distribution::FloatDistribution;
 use distribution::IntDistribution;
 use distribution::ParamValue;
+use encoding::InternalBounds;
+use encoding::internal_bounds;
 
 // A value, or on log scale its exponential.
 fn unscale(log_scale: bool, x: f64) -> Outcome

@@ -5,9 +5,7 @@ ghost use Prim.Native.Nat.{_≤_};
 ghost use Rattle.distribution.specs.Shape.{intShape, shapeOf};
 ghost use Rattle.common.specs.Random.{rangeOf, logRange, logFloat, settled, finished, refusedOf, logFloatRandom, steppedFloatRandom, linearFloatRandom, floatRandom, logIntRandom, steppedIntRandom, linearIntRandom, intRandom, categoricalRandom, randomOf, sampleRandomOf};
 ghost use Rattle.common.specs.RandomParts.{LogFits, Stepped};
-use crate::InternalBounds;
 use crate::RandomDraw;
-use crate::bounds::ends;
 use crate::decode::int_decoded;
 use crate::grid::clamp;
 use crate::grid::float_grid;
@@ -16,6 +14,8 @@ use distribution::Distribution;
 use distribution::FloatDistribution;
 use distribution::IntDistribution;
 use distribution::ParamValue;
+use encoding::InternalBounds;
+use encoding::ends;
 
 // A refusal draws nothing.
 fn refused(w: u64, n: u64) -> RandomDraw

@@ -1,5 +1,4 @@
 pub mod EqualShape
 pub mod Equals
 pub mod Facts
-pub mod RoundTrip
 pub mod Whole

@@ -1,4 +1,4 @@
-// Distributions and values: their words, the shape test, equality, and the Taken rule. The names are the Rust's.
+// Distributions and values: the shape test, equality, and the Taken rule. The names are the Rust's.
 ghost use mathlib.Core.Path.{_≡_};
 ghost use Rattle.distribution.specs.Value.{kindOf, wordOf};
 
@@ -6,15 +6,11 @@ pub mod equality;
 pub mod limits;
 pub mod shape;
 pub mod taken;
-pub mod words;
 
 pub use equality::equal;
 pub use shape::well_formed;
 pub use taken::taken_rule;
 pub use taken::value_of_word;
-pub use words::distribution_of;
-pub use words::round_trip;
-pub use words::words_of;
 
 // A float parameter. An unstepped one has the step +0.
 pub struct FloatDistribution {

@@ -7,7 +7,7 @@ ghost use Rattle.distribution.specs.Equal.{eqZ};
 ghost use Rattle.distribution.specs.Shape.{within};
 
 // Whether four tests hold.
-pub(crate) fn all(a: bool, b: bool, c: bool, d: bool) -> bool
+pub fn all(a: bool, b: bool, c: bool, d: bool) -> bool
     ensures { λ r. ⌜ r ≡ (a && b && c && d) ⌝ }
 {
     a && (b && (c && d))

@@ -2,7 +2,7 @@
 ghost use mathlib.Core.Path.{_≡_};
 ghost use lib.Ieee.{binary64, ofBits, toBits};
 ghost use Rattle.arith.specs.Exp.{expOf};
-ghost use Rattle.arith.specs.Ln.{lnOf};
+ghost use Rattle.logarithm.specs.Ln.{lnOf};
 ghost use Rattle.arith.specs.Sqrt.{sqrtOf};
 ghost use Rattle.exports.specs.Told.{toldOf};
 
@@ -34,5 +34,5 @@ pub extern "C" fn arith_exp(x: u64) -> u64
 pub extern "C" fn arith_ln(x: u64) -> u64
     ensures { λ r. ⌜ r ≡ toldOf (lnOf (ofBits binary64 x)) ⌝ }
 {
-    told(arith::ln(arith::float_of_word(x)))
+    told(logarithm::ln(arith::float_of_word(x)))
 }

@@ -12,12 +12,13 @@ use Rattle.arith.proofs.Lists.{grown-read}
 use Rattle.arith.proofs.Tests.{taken}
 use Rattle.distribution.specs.declared.Distribution.{Distribution}
 use Rattle.distribution.specs.declared.Read.{Read}
-use Rattle.history.specs.declared.DimensionInfo.{DimensionInfo}
+use Rattle.dimensions.specs.declared.DimensionInfo.{DimensionInfo}
 use Rattle.history.specs.declared.Mapped.{Mapped}
-use Rattle.history.specs.Dimensions.{dimensionAt}
+use Rattle.dimensions.specs.Dimensions.{dimensionAt}
 use Rattle.history.specs.Mapping.{insertById, entriesOf, none, firstEntry, consumedOf, matchesOf, mappedOf}
-use Rattle.history.specs.Rows.{slotAt, idOf}
-use Rattle.history.specs.Tests.{present, slotRead, readsEqual}
+use Rattle.history_rows.specs.Rows.{slotAt}
+use Rattle.slots.specs.Slot.{idOf}
+use Rattle.slots.specs.Slot.{present, slotRead, readsEqual}
 
 -- ---- what holds of each entry
 

@@ -6,17 +6,17 @@ use native.Mathlib.Nat.{le-trans, mul-le-mul}
 use lib.ListN.{length, getD}
 use lib.Ieee.{Float, binary64, ofBits}
 use Rattle.arith.proofs.Lists.{grown-length, padded-length, places-length}
-use Rattle.history.specs.declared.DimensionInfo.{DimensionInfo}
+use Rattle.dimensions.specs.declared.DimensionInfo.{DimensionInfo}
 use Rattle.history.specs.declared.Mapped.{Mapped}
 use Rattle.history.specs.declared.Training.{Training}
-use Rattle.history.specs.Dimensions.{columnsOf}
+use Rattle.dimensions.specs.Dimensions.{columnsOf}
 use Rattle.history.specs.Mapping.{mappedOf, numberOf}
-use Rattle.history.specs.Rows.{rowCount, recentOf, rowAt, objectiveOf}
+use Rattle.history_rows.specs.Rows.{rowCount, recentOf, rowAt, objectiveOf}
 use Rattle.history.specs.Training.{trainsOf, columnOf, keptOf, xOf, yOf, recentTraining, trainingOf}
 use Rattle.history.proofs.FromArray.{training-is}
-use Rattle.history.proofs.Passed.{opened}
+use Rattle.history.proofs.Opened.{opened}
 use Rattle.history.proofs.PlaceList.{columns-few}
-use Rattle.history.proofs.Recent.{recent-few}
+use Rattle.history_rows.proofs.Recent.{recent-few}
 
 pub record Counts (t : Training) : Type 0 where
   pub rows : t .n ≤ 100

@@ -1,22 +1,22 @@
--- Training data from the mapping in its array are those from the mapping itself: past the dimensions the array is not read. Then the number of training data, and of a view. Assumes nothing.
+-- Training data from the mapping in its array are those from the mapping itself: past the dimensions the array is not read. Then the number of training data. Assumes nothing.
 use Prim.Native.Nat.{ℕ, _*_, _/_, _%_, _<_}
 use mathlib.Core.Path.{_≡_, refl, sym, ap, _∙_, subst}
-use mathlib.Core.Bool.{Bool, true, false, _&&_, cond}
+use mathlib.Core.Bool.{Bool, true, false, cond}
 use mathlib.Core.List.{List}
 use lib.ListN.{length, getD}
-use lib.Dec.{eqb, leb}
+use lib.Dec.{eqb}
 use borrow.Author.Tests.{eq-eqb, eqb-true}
 use lib.Ieee.{Float}
 use Rattle.arith.specs.Lists.{every, filled, padded, placesOf}
 use Rattle.arith.proofs.Lists.{every-same, places-same, places-at, list-same, filled-at}
-use Rattle.history.specs.declared.DimensionInfo.{DimensionInfo}
+use Rattle.dimensions.specs.declared.DimensionInfo.{DimensionInfo}
 use Rattle.history.specs.declared.Mapped.{Mapped}
 use Rattle.history.specs.declared.Training.{Training}
-use Rattle.history.specs.Dimensions.{dimensionAt, continuousOf, columnsOf}
+use Rattle.dimensions.specs.Dimensions.{dimensionAt, continuousOf, columnsOf}
 use Rattle.history.specs.Mapping.{none, mappedOf, numberOf}
-use Rattle.history.specs.Rows.{rowCount, rowAt, slotAt, recentOf}
-use Rattle.history.specs.Training.{slotWith, coversOf, trainsOf, entryOf, columnOf, keptOf, xOf, yOf, builtOf, recentTraining, refusedOf, trainingOf}
-use Rattle.history.specs.View.{reachesOf, viewOf}
+use Rattle.history_rows.specs.Rows.{rowCount, rowAt, slotAt, recentOf}
+use Rattle.history_rows.specs.Slots.{slotWith}
+use Rattle.history.specs.Training.{coversOf, trainsOf, entryOf, columnOf, keptOf, xOf, yOf, builtOf, recentTraining, refusedOf, trainingOf}
 use Rattle.history.proofs.KeptRows.{cell}
 use Rattle.history.proofs.MappedList.{mapped-length}
 
@@ -79,9 +79,3 @@ training-number n dims k h = go (eqb (numberOf n dims k h) 0) refl
     go : (b : Bool) → eqb (numberOf n dims k h) 0 ≡ b → cond b (recentTraining n dims k (recentOf n h)) (refusedOf (numberOf n dims k h)) .number ≡ numberOf n dims k h
     go true e = sym (eqb-true (numberOf n dims k h) 0 e)
     go false e = refl
-
--- so it says which view there is
-pub view-is : (n startup : ℕ) (dims : List DimensionInfo) (k : ℕ) (h : List ℕ) (b : Bool) → eqb (trainingOf n dims k h .number) 0 ≡ b → viewOf n startup dims k h ≡ record { reached = b && reachesOf n startup h; training = trainingOf n dims k h }
-unfolding viewOf
-view-is n startup dims k h b e =
-    ap (λ (t : Bool). record { reached = t && reachesOf n startup h; training = trainingOf n dims k h }) (ap (λ (x : ℕ). eqb x 0) (sym (training-number n dims k h)) ∙ e)

@@ -12,10 +12,11 @@ use Rattle.arith.specs.Lists.{placesOf}
 use Rattle.arith.proofs.Lists.{every-each, places-at}
 use Rattle.history.specs.declared.Mapped.{Mapped}
 use Rattle.history.specs.Cells.{Cells}
-use Rattle.history.specs.Rows.{widthOf, rowCount, rowAt}
+use Rattle.history_rows.specs.Rows.{widthOf, rowCount, rowAt}
 use Rattle.history.specs.Mapping.{none}
-use Rattle.history.specs.Training.{slotWith, coversOf, trainsOf, keptOf}
-use Rattle.history.proofs.Recent.{row-inside}
+use Rattle.history_rows.specs.Slots.{slotWith}
+use Rattle.history.specs.Training.{coversOf, trainsOf, keptOf}
+use Rattle.history_rows.proofs.Recent.{row-inside}
 
 -- place p of a table of d columns is in row p / d, column p % d
 pub cell : (p rows d : ℕ) → p < rows * d → (p / d < rows) × (p % d < d)

@@ -12,8 +12,9 @@ use Rattle.arith.proofs.Tests.{taken}
 use Rattle.history.specs.declared.Mapped.{Mapped}
 use Rattle.history.specs.Mapping.{none, insertById, entriesOf, firstEntry}
 use Rattle.history.specs.MappingParts.{betterOf}
-use Rattle.history.specs.Rows.{idOf, slotAt}
-use Rattle.history.specs.Tests.{present}
+use Rattle.slots.specs.Slot.{idOf}
+use Rattle.history_rows.specs.Rows.{slotAt}
+use Rattle.slots.specs.Slot.{present}
 
 -- no id is below x
 abbrev below : ℕ → List (List ℕ) → Bool

@@ -1,18 +1,13 @@
 mod Cases
-mod Consumed
+pub mod Consumed
 pub mod Counts
-mod First
 pub mod FromArray
-mod KeptRows
+pub mod KeptRows
 mod Least
 mod MappedList
-mod Parts
-pub mod Order
-pub mod Passed
+pub mod Opened
 mod Perm
 pub mod PlaceList
-mod Recent
-mod SameRow
+pub mod SameRow
+pub mod Samples
 mod Sorted
-pub mod Usable
-pub mod Values

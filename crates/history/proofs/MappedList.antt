@@ -10,12 +10,13 @@ use Rattle.arith.specs.Lists.{every, grown, filled}
 use Rattle.arith.proofs.Lists.{every-same, grown-length, grown-filled-set, filled-at}
 use Rattle.distribution.specs.declared.Distribution.{Distribution}
 use Rattle.distribution.specs.declared.Read.{Read}
-use Rattle.history.specs.declared.DimensionInfo.{DimensionInfo}
+use Rattle.dimensions.specs.declared.DimensionInfo.{DimensionInfo}
 use Rattle.history.specs.declared.Mapped.{Mapped}
-use Rattle.history.specs.Dimensions.{dimensionAt}
+use Rattle.dimensions.specs.Dimensions.{dimensionAt}
 use Rattle.history.specs.Mapping.{none, entriesOf, firstEntry, isMapped, consumedOf, matchesOf, mappedOf}
-use Rattle.history.specs.Rows.{widthOf, rowAt, idOf}
-use Rattle.history.specs.Tests.{slotRead, readsEqual}
+use Rattle.history_rows.specs.Rows.{widthOf, rowAt}
+use Rattle.slots.specs.Slot.{idOf}
+use Rattle.slots.specs.Slot.{slotRead, readsEqual}
 use Rattle.history.proofs.Least.{first-same}
 
 -- past the dimensions before, the array is not read

@@ -12,13 +12,17 @@ use Rattle.arith.specs.Lists.{every}
 use Rattle.arith.proofs.Lists.{every-same}
 use Rattle.arith.proofs.Tests.{taken, iff}
 use Rattle.distribution.proofs.Facts.{parts}
-use Rattle.history.specs.declared.DimensionInfo.{DimensionInfo}
+use Rattle.dimensions.specs.declared.DimensionInfo.{DimensionInfo}
 use Rattle.history.specs.declared.Mapped.{Mapped}
-use Rattle.history.specs.Rows.{slotAt, idOf, stateOf}
-use Rattle.history.specs.Tests.{present, sameId, rowOk, slotOk, slotsOk, idsOnce, agreeing, rowsAgreeing}
+use Rattle.history_rows.specs.Rows.{slotAt, stateOf}
+use Rattle.slots.specs.Slot.{idOf}
+use Rattle.slots.specs.Slot.{present, sameId, slotOk, agreeing}
+use Rattle.history_rows.specs.Tests.{rowOk, slotsOk, idsOnce, rowsAgreeing}
 use Rattle.history.specs.Mapping.{insertById, entriesOf, none, mappedOf}
-use Rattle.history.specs.Training.{hasId, slotWith, coversOf, trainsOf, columnOf}
-use Rattle.history.specs.Agree.{RowsAgree}
+use Rattle.slots.specs.Slot.{hasId}
+use Rattle.history_rows.specs.Slots.{slotWith}
+use Rattle.history.specs.Training.{coversOf, trainsOf, columnOf}
+use Rattle.history.specs.RowsAgree.{RowsAgree}
 use Rattle.history.proofs.Perm.{backOf, pairs, every-pairs, back-order, every-order, pairs-order, pairs-perm, fold-perm, place-test, pick, pick-perm, pick-place}
 use Rattle.history.proofs.Sorted.{insert-swap}
 

@@ -6,7 +6,7 @@ use Prim.Native.Nat.{ℕ}
 use native.Mathlib.Omega.{arith}
 use lib.Dec.{ltb}
 use borrow.Author.Tests.{ltb-true, ltb-false, lt-ltb, le-ltb}
-use Rattle.history.specs.Rows.{idOf}
+use Rattle.slots.specs.Slot.{idOf}
 use Rattle.history.specs.Mapping.{insertById}
 
 -- of two different numbers one is below the other

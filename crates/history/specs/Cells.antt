@@ -5,7 +5,7 @@ use lib.Dec.{T}
 use lib.ListN.{length, getD}
 use Rattle.history.specs.declared.Mapped.{Mapped}
 use Rattle.history.specs.Mapping.{none}
-use Rattle.history.specs.Rows.{rowAt}
+use Rattle.history_rows.specs.Rows.{rowAt}
 use Rattle.history.specs.Training.{coversOf}
 
 pub record Cells (n m : ℕ) (mapping : List Mapped) (columns r kept : List ℕ) : Type 0 where

@@ -1,12 +1,6 @@
-pub mod Agree
 pub mod Cells
-pub mod Dimensions
-pub mod First
 pub mod Mapping
 pub mod MappingParts
 pub mod Places
-pub mod Rows
-pub mod Tests
+pub mod RowsAgree
 pub mod Training
-pub mod Usable
-pub mod View

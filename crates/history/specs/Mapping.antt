@@ -7,12 +7,14 @@ use lib.ListN.{getD}
 use Rattle.arith.specs.Lists.{every, grown, filled}
 use Rattle.distribution.specs.declared.Distribution.{Distribution}
 use Rattle.distribution.specs.declared.Read.{Read}
-use Rattle.history.specs.declared.DimensionInfo.{DimensionInfo}
+use Rattle.dimensions.specs.declared.DimensionInfo.{DimensionInfo}
 use Rattle.history.specs.declared.Mapped.{Mapped}
 use Rattle.history.specs.declared.Mapping.{Mapping}
-use Rattle.history.specs.Dimensions.{dimensionAt, dimensionsOk}
-use Rattle.history.specs.Rows.{rowAt, slotAt, idOf, recentOf}
-use Rattle.history.specs.Tests.{present, slotRead, readsEqual, refusalOf}
+use Rattle.dimensions.specs.Dimensions.{dimensionAt, dimensionsOk}
+use Rattle.history_rows.specs.Rows.{rowAt, slotAt, recentOf}
+use Rattle.slots.specs.Slot.{idOf}
+use Rattle.slots.specs.Slot.{present, slotRead, readsEqual}
+use Rattle.history_rows.specs.Tests.{refusalOf}
 
 -- a slot put before the first one of a greater id
 unfoldable pub insertById : List ℕ → List (List ℕ) → List (List ℕ)

@@ -4,8 +4,8 @@ use mathlib.Core.Bool.{Bool, true, not, _&&_, _||_, cond}
 use mathlib.Core.List.{List}
 use lib.Dec.{ltb}
 use Rattle.history.specs.declared.Mapped.{Mapped}
-use Rattle.history.specs.Rows.{idOf}
-use Rattle.history.specs.Tests.{present}
+use Rattle.slots.specs.Slot.{idOf}
+use Rattle.slots.specs.Slot.{present}
 
 -- the better of a slot and the entry found so far, of lesser id
 abbrev pub betterOf : (List ℕ → Bool) → List ℕ → Mapped → Mapped

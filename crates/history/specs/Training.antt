@@ -5,28 +5,20 @@ use mathlib.Core.List.{List, []}
 use lib.Dec.{eqb, ltb}
 use lib.ListN.{length, getD}
 use lib.Ieee.{Float, binary64, ofBits}
-use Rattle.arith.specs.Lists.{every, listOf, padded, placeOf, placesOf}
+use Rattle.arith.specs.Lists.{every, listOf, padded, placesOf}
 use Rattle.arith.specs.Outcome.{valueOf}
-use Rattle.distribution.specs.declared.ParamValue.{ParamValue}
-use Rattle.distribution.specs.declared.Read.{Read}
-use Rattle.distribution.specs.Taken as taken
-use Rattle.common.specs.Encode.{toInternalOf}
+use Rattle.encoding.specs.Encode.{toInternalOf}
 use Rattle.gp_model.specs.Scaling.{toNormalizedOf}
-use Rattle.history.specs.declared.DimensionInfo.{DimensionInfo}
+use Rattle.dimensions.specs.declared.DimensionInfo.{DimensionInfo}
 use Rattle.history.specs.declared.Mapped.{Mapped}
 use Rattle.history.specs.declared.Training.{Training}
-use Rattle.history.specs.Dimensions.{dimensionAt, columnsOf}
+use Rattle.dimensions.specs.Dimensions.{dimensionAt, columnsOf}
 use Rattle.history.specs.Mapping.{none, mappedOf, numberOf}
-use Rattle.history.specs.Rows.{rowAt, slotAt, idOf, takenWord, objectiveOf, rowCount, recentOf}
-use Rattle.history.specs.Tests.{present, slotRead}
-
--- a slot that is present under that id
-abbrev pub hasId : ℕ → List ℕ → Bool
-hasId id v = present v && eqb (idOf v) id
-
--- the place of the slot with that id in a row of n slots, or n
-unfoldable pub slotWith : ℕ → List ℕ → ℕ → ℕ
-slotWith n row id = placeOf n (λ s. hasId id (slotAt row s))
+use Rattle.history_rows.specs.Rows.{rowAt, slotAt, objectiveOf, rowCount, recentOf}
+use Rattle.slots.specs.Slot.{takenWord}
+use Rattle.history_rows.specs.Slots.{slotWith}
+use Rattle.slots.specs.Slot.{valueRead}
+use Rattle.slots.specs.Slot.{slotRead}
 
 -- the row has a slot for a dimension of that mapping
 unfoldable pub coversOf : ℕ → List ℕ → Mapped → Bool
@@ -37,11 +29,6 @@ coversOf n row m = m .found && ltb (slotWith n row (m .id)) n
 unfoldable pub trainsOf : ℕ → List Mapped → List ℕ → List ℕ → Bool
 unfolding coversOf
 trainsOf n mapping columns row = every (length columns) (λ c. coversOf n row (getD mapping (getD columns c 0) none))
-
--- the value of a slot, of its distribution's kind
-abbrev pub valueRead : Read → ℕ → ParamValue
-valueRead (Read.WellFormed d) w = taken.valueOf d w
-valueRead Read.Malformed w = ParamValue.Refused 11
 
 -- a slot's value under a dimension: `to_internal`, then scaled by the dimension's bounds
 unfoldable pub entryOf : DimensionInfo → List ℕ → Float

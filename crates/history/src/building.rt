@@ -6,24 +6,22 @@ ghost use Rattle.arith.specs.Lists.{padded, placesOf};
 ghost use Rattle.history.specs.Cells.{Cells};
 ghost use Rattle.history.specs.Mapping.{none};
 ghost use Rattle.history.specs.Places.{placesIn};
-ghost use Rattle.history.specs.Rows.{widthOf, rowAt, rowCount};
-ghost use Rattle.history.specs.Training.{slotWith, coversOf, trainsOf, entryOf, columnOf, xOf, yOf, builtOf, refusedOf, recentTraining, trainingOf};
-use crate::DimensionInfo;
+ghost use Rattle.history_rows.specs.Rows.{widthOf, rowAt, rowCount};
+ghost use Rattle.history_rows.specs.Slots.{slotWith};
+ghost use Rattle.history.specs.Training.{coversOf, trainsOf, entryOf, columnOf, xOf, yOf, builtOf, refusedOf, recentTraining, trainingOf};
 use crate::Mapped;
 use crate::Places;
 use crate::Training;
-use crate::dimensions;
+use crate::columns;
 use crate::param_mapping;
-use crate::rows;
-use crate::slots;
-use crate::tests;
+use dimensions::DimensionInfo;
 
 // Whether a row has a slot for a dimension of that mapping.
 fn covers(n: usize, row: &[u64], m: Mapped) -> bool
     requires { ⌜ (n ≤ 20) × (length (now row) ≡ widthOf n) ⌝ }
     ensures { λ r. ⌜ r ≡ coversOf n (now (row .entry)) m ⌝ }
 {
-    m.found && rows::slot_with(n, row, m.id) < n
+    m.found && history_rows::slot_place(n, row, m.id) < n
 }
 
 // Whether a row has one for each of these dimensions.
@@ -57,7 +55,7 @@ fn kept(n: usize, m: usize, r: &[u64], mapping: [Mapped; 20], columns: &[usize])
         let start = i * w;
         let at = places.at;
         let test = trains(n, mapping, columns, &r[start..start + w]);
-        places = dimensions::with_place(at, places.count, i, test);
+        places = columns::with_place(at, places.count, i, test);
         i += 1;
     }
     places
@@ -69,7 +67,7 @@ fn entry(d: DimensionInfo, slot: &[u64]) -> f64
     ensures { λ r. ⌜ r ≡ entryOf d (now (slot .entry)) ⌝ }
 {
     let distribution = d.distribution;
-    let internal = common::to_internal(slots::value(slot), distribution);
+    let internal = encoding::to_internal(slots::value(slot), distribution);
     gp_model::to_normalized(arith::value(internal), d.lo, d.hi)
 }
 
@@ -79,7 +77,7 @@ fn column(n: usize, dims: [DimensionInfo; 20], mapping: [Mapped; 20], row: &[u64
     ensures { λ r. ⌜ r ≡ columnOf n dims mapping (now (row .entry)) j ⌝ }
 {
     let m = mapping[j];
-    let s = rows::slot_with(n, row, m.id);
+    let s = history_rows::slot_place(n, row, m.id);
     let at = 3 + 8 * s;
     entry(dims[j], &row[at..at + 8])
 }
@@ -173,7 +171,7 @@ fn recent_training(n: usize, dims: [DimensionInfo; 20], k: usize, m: usize, r: &
     ensures { λ r′. ⌜ r′ ≡ recentTraining n dims k (now (r .entry)) ⌝ }
 {
     let mapping = param_mapping::recent_mapping(n, dims, k, m, r);
-    let columns = dimensions::columns(dims, k);
+    let columns = columns::columns(dims, k);
     let d = columns.count;
     let at = columns.at;
     of_columns(n, m, dims, mapping, &at[0..d], r)
@@ -200,6 +198,7 @@ pub fn build_training_data(slots: usize, dims: [DimensionInfo; 20], k: usize, h:
     if number != 0 {
         return refused(number);
     }
-    let start = tests::older(slots, h);
-    recent_training(slots, dims, k, tests::recent_rows(slots, h), &h[start..])
+    let recent = history_rows::recent_part(slots, h);
+    let start = recent.start;
+    recent_training(slots, dims, k, recent.rows, &h[start..])
 }

@@ -7,13 +7,10 @@ ghost use lib.ListN.{length};
 ghost use Rattle.arith.specs.Lists.{filled};
 ghost use Rattle.history.specs.Mapping.{none, firstEntry, entriesOf, isMapped, consumedOf, matchesOf, mappedOf, numberOf, mappingOf};
 ghost use Rattle.history.specs.MappingParts.{betterOf};
-ghost use Rattle.history.specs.Rows.{widthOf, rowAt};
-use crate::DimensionInfo;
+ghost use Rattle.history_rows.specs.Rows.{widthOf, rowAt};
 use crate::Mapped;
 use crate::Mapping;
-use crate::dimensions;
-use crate::slots;
-use crate::tests;
+use dimensions::DimensionInfo;
 use distribution::Distribution;
 use distribution::Read;
 
@@ -139,7 +136,7 @@ pub(crate) fn number(slots: usize, dims: [DimensionInfo; 20], k: usize, h: &[u64
     if !dimensions::dimensions_ok(dims, k) {
         return 11;
     }
-    tests::refusal(slots, h)
+    history_rows::refusal(slots, h)
 }
 
 // The ids of k dimensions, from the first recent row of a history.
@@ -161,8 +158,9 @@ pub fn establish_param_mapping(
             }; 20],
         };
     }
-    let start = tests::older(slots, h);
-    let m = tests::recent_rows(slots, h);
+    let recent = history_rows::recent_part(slots, h);
+    let start = recent.start;
+    let m = recent.rows;
     let ids = recent_mapping(slots, dims, k, m, &h[start..]);
     Mapping { number: 0, ids }
 }

@@ -19,7 +19,7 @@ pub(crate) fn ln(args: &[u64], results: &mut Results) -> Reply
     if args.len() != 1 {
         return Reply::Unreadable;
     }
-    reply::outcome(arith::ln(arith::float_of_word(args[0])), results)
+    reply::outcome(logarithm::ln(arith::float_of_word(args[0])), results)
 }
 
 pub(crate) fn sqrt(args: &[u64], results: &mut Results) -> Reply

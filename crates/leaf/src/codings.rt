@@ -5,15 +5,15 @@ ghost use Rattle.leaf.specs.Counts.{ResultsFit};
 use crate::reply;
 use crate::reply::Reply;
 use crate::reply::Results;
-use common::InternalBounds;
 use distribution::ParamValue;
 use distribution::Read;
+use encoding::InternalBounds;
 
 // The distribution of the six words from `from` on.
 pub(crate) fn read(args: &[u64], from: usize) -> Read
     requires { ⌜ from + 6 ≤ length (now args) ⌝ }
 {
-    distribution::distribution_of(
+    distribution_words::distribution_of(
         args[from],
         args[from + 1],
         args[from + 2],
@@ -96,7 +96,7 @@ pub(crate) fn internal_bounds(args: &[u64], results: &mut Results) -> Reply
     let Read::WellFormed(d) = read(args, 0) else {
         return Reply::Refused(11);
     };
-    match common::internal_bounds(d) {
+    match encoding::internal_bounds(d) {
         InternalBounds::Ends(lo, hi) => {
             results[0] = arith::word_of_float(lo);
             results[1] = arith::word_of_float(hi);
@@ -145,7 +145,7 @@ pub(crate) fn to_internal(args: &[u64], results: &mut Results) -> Reply
     if let ParamValue::Refused(n) = v {
         return Reply::Refused(n);
     }
-    reply::outcome(common::to_internal(v, d), results)
+    reply::outcome(encoding::to_internal(v, d), results)
 }
 
 pub(crate) fn sample_random(args: &[u64], results: &mut Results) -> Reply

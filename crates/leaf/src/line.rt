@@ -31,7 +31,8 @@ pub(crate) fn answer(line: &[u8], words: &mut [u64], results: &mut Results) -> R
     }
 }
 
-// The leaf of that name, called on these words.
+// The leaf of that name, called on these words. The names are tried group by group, each in a function of its own: what proving a
+// chain of tests costs grows with the square of its length.
 fn call(name: &[u8], args: &[u64], results: &mut Results) -> Reply
     ensures { λ r. ⌜ ResultsFit r ⌝ }
 {
@@ -44,6 +45,13 @@ fn call(name: &[u8], args: &[u64], results: &mut Results) -> Reply
     if same(name, b"whole") {
         return draws::whole(args, results);
     }
+    in_arithmetic(name, args, results)
+}
+
+// A leaf of `arith`, or of a later group.
+fn in_arithmetic(name: &[u8], args: &[u64], results: &mut Results) -> Reply
+    ensures { λ r. ⌜ ResultsFit r ⌝ }
+{
     if same(name, b"exp") {
         return arithmetic::exp(args, results);
     }
@@ -59,6 +67,13 @@ fn call(name: &[u8], args: &[u64], results: &mut Results) -> Reply
     if same(name, b"floor") {
         return arithmetic::floor(args, results);
     }
+    in_distribution(name, args, results)
+}
+
+// A leaf of `distribution`, or of a later group.
+fn in_distribution(name: &[u8], args: &[u64], results: &mut Results) -> Reply
+    ensures { λ r. ⌜ ResultsFit r ⌝ }
+{
     if same(name, b"distribution") {
         return codings::well_formed(args, results);
     }
@@ -68,6 +83,13 @@ fn call(name: &[u8], args: &[u64], results: &mut Results) -> Reply
     if same(name, b"taken") {
         return codings::taken(args, results);
     }
+    in_common(name, args, results)
+}
+
+// A leaf of `common`, or of a later group.
+fn in_common(name: &[u8], args: &[u64], results: &mut Results) -> Reply
+    ensures { λ r. ⌜ ResultsFit r ⌝ }
+{
     if same(name, b"internal_bounds") {
         return codings::internal_bounds(args, results);
     }
@@ -80,6 +102,13 @@ fn call(name: &[u8], args: &[u64], results: &mut Results) -> Reply
     if same(name, b"sample_random") {
         return codings::sample_random(args, results);
     }
+    in_normal(name, args, results)
+}
+
+// A leaf of floats alone, or of a later group.
+fn in_normal(name: &[u8], args: &[u64], results: &mut Results) -> Reply
+    ensures { λ r. ⌜ ResultsFit r ⌝ }
+{
     if same(name, b"norm_pdf") {
         return normal::norm_pdf(args, results);
     }
@@ -89,14 +118,21 @@ fn call(name: &[u8], args: &[u64], results: &mut Results) -> Reply
     if same(name, b"expected_improvement") {
         return normal::expected_improvement(args, results);
     }
-    if same(name, b"matern52") {
-        return model::matern52(args, results);
-    }
     if same(name, b"to_normalized") {
         return normal::to_normalized(args, results);
     }
     if same(name, b"from_normalized") {
         return normal::from_normalized(args, results);
+    }
+    in_model(name, args, results)
+}
+
+// A leaf of the model, or of the last group.
+fn in_model(name: &[u8], args: &[u64], results: &mut Results) -> Reply
+    ensures { λ r. ⌜ ResultsFit r ⌝ }
+{
+    if same(name, b"matern52") {
+        return model::matern52(args, results);
     }
     if same(name, b"fit_gp") {
         return model::fit_gp(args, results);
@@ -107,6 +143,13 @@ fn call(name: &[u8], args: &[u64], results: &mut Results) -> Reply
     if same(name, b"optimize_acquisition") {
         return model::optimize_acquisition(args, results);
     }
+    in_records(name, args, results)
+}
+
+// A leaf of `history` or a run, or none.
+fn in_records(name: &[u8], args: &[u64], results: &mut Results) -> Reply
+    ensures { λ r. ⌜ ResultsFit r ⌝ }
+{
     if same(name, b"history") {
         return records::history(args, results);
     }

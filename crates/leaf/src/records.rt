@@ -8,10 +8,10 @@ use crate::model;
 use crate::reply;
 use crate::reply::Reply;
 use crate::reply::Results;
+use dimensions::DimensionInfo;
 use distribution::CategoricalDistribution;
 use distribution::Distribution;
 use distribution::Read;
-use history::DimensionInfo;
 use history::Mapped;
 use history::Training;
 
@@ -29,7 +29,7 @@ pub(crate) fn history(args: &[u64], results: &mut Results) -> Reply
         return Reply::Unreadable;
     }
     let slots = args[0] as usize;
-    let number = history::refusal(slots, &args[1..]);
+    let number = history_rows::refusal(slots, &args[1..]);
     if number != 0 {
         return Reply::Refused(number);
     }
@@ -42,7 +42,7 @@ pub(crate) fn history(args: &[u64], results: &mut Results) -> Reply
 
 // What stands past the dimensions: a choice of one.
 fn no_dimension() -> DimensionInfo {
-    history::dimension(Distribution::Categorical(CategoricalDistribution { n_choices: 1 }))
+    dimensions::dimension(Distribution::Categorical(CategoricalDistribution { n_choices: 1 }))
 }
 
 // The first k dimensions of these words; a malformed one is 11.
@@ -55,7 +55,7 @@ fn read_dimensions(words: &[u64], k: usize) -> Dimensions
         let Read::WellFormed(d) = codings::read(words, 6 * j) else {
             return Dimensions { number: 11, dims };
         };
-        dims[j] = history::dimension(d);
+        dims[j] = dimensions::dimension(d);
         j += 1;
     }
     Dimensions { number: 0, dims }

@@ -7,7 +7,7 @@ use crate::reply::Reply;
 use crate::reply::Results;
 use distribution::ParamValue;
 use sampler::Sampled;
-use sampler::Sampler;
+use sampler_state::Sampler;
 use settings::Settings;
 
 // How many words the call at `at` has; 0 where none is there.
@@ -91,7 +91,7 @@ fn put_end(s: Sampler, results: &mut Results, to: usize) -> Reply
 {
     let places = s.places;
     results[to] = s.word;
-    results[to + 1] = sampler::taken_count(places) as u64;
+    results[to + 1] = sampler_state::taken_count(places) as u64;
     Reply::Accepted(to + 2)
 }
 
@@ -130,7 +130,7 @@ pub(crate) fn run(args: &[u64], results: &mut Results) -> Reply
     if !divides(args) {
         return Reply::Unreadable;
     }
-    let m = sampler::build(Settings {
+    let m = sampler_state::build(Settings {
         n_startup_trials: args[0],
         n_candidates: args[1],
         noise_variance: arith::float_of_word(args[2]),

@@ -19,11 +19,11 @@ use Rattle.rng_util.specs.Generator.{nextOf, movedOf}
 use Rattle.distribution.specs.declared.Distribution.{Distribution}
 use Rattle.distribution.specs.declared.ParamValue.{ParamValue}
 use Rattle.distribution.specs.Shape.{shapeOf, intShape, intStep, categoricalShape}
-use Rattle.common.specs.Bounds.{boundsOf, endsOf}
+use Rattle.encoding.specs.Bounds.{boundsOf, endsOf}
 use Rattle.distribution.specs.Equal.{equalOf, intEqual}
 use Rattle.distribution.specs.Taken.{takenOf, valueOf, intTaken}
-use Rattle.distribution.specs.Words.{readOf, checkedOf, intRead}
-use Rattle.common.specs.Encode.{encodedOf, toInternalOf}
+use Rattle.distribution_words.specs.Words.{readOf, checkedOf, intRead}
+use Rattle.encoding.specs.Encode.{encodedOf, toInternalOf}
 use Rattle.common.specs.Decode.{fromInternalOf, decodedOf}
 use Rattle.common.specs.Grid.{intGrid}
 use Rattle.common.specs.Random.{sampleRandomOf, randomOf, intRandom, linearIntRandom, categoricalRandom, fromWhole}
@@ -33,19 +33,22 @@ use Rattle.gp_model.specs.Predict.{countsFit}
 use Rattle.gp_model.specs.Search.{advanceOf, optimizeAcquisitionOf, searchDomain}
 use Rattle.gp_model.specs.Scaling.{fromNormalizedOf, toNormalizedOf}
 use Rattle.gp_model.specs.Statistics.{allWithin, lengthscaleOf, meanOf, varianceOf}
-use Rattle.history.specs.declared.DimensionInfo.{DimensionInfo}
-use Rattle.history.specs.Dimensions.{dimensionOf, dimensionOk, dimensionsOk, columnsOf}
+use Rattle.dimensions.specs.declared.DimensionInfo.{DimensionInfo}
+use Rattle.dimensions.specs.Dimensions.{dimensionOf, dimensionOk, dimensionsOk, columnsOf}
 use Rattle.history.specs.Mapping.{insertById, entriesOf, firstEntry, consumedOf, matchesOf, mappedOf, numberOf}
-use Rattle.history.specs.Rows.{wholeRows, rowCount, recentCount, recentOf}
-use Rattle.history.specs.Tests.{rowOk, slotRead, slotOk, agreeing, slotsOk, idsOnce, rowsAgreeing, recentTests, refusalOf}
-use Rattle.history.specs.Training.{slotWith, entryOf, columnOf, keptOf, trainsOf, coversOf, xOf, yOf, trainingOf, recentTraining}
-use Rattle.history.specs.View.{viewOf}
+use Rattle.history_rows.specs.Rows.{wholeRows, rowCount, recentCount, recentOf}
+use Rattle.history_rows.specs.Tests.{rowOk, slotsOk, idsOnce, rowsAgreeing, recentTests, refusalOf}
+use Rattle.slots.specs.Slot.{slotRead, slotOk, agreeing}
+use Rattle.history_rows.specs.Slots.{slotWith}
+use Rattle.history.specs.Training.{entryOf, columnOf, keptOf, trainsOf, coversOf, xOf, yOf, trainingOf, recentTraining}
+use Rattle.history_view.specs.View.{viewOf}
 use Rattle.settings.specs.declared.Settings.{Settings}
 use Rattle.settings.specs.Settings.{settingsOk}
 use Rattle.proposal.specs.declared.Proposal.{Proposal}
 use Rattle.proposal.specs.Points.{pointFor}
 use Rattle.proposal.specs.Proposal.{candidateOf, candidateNumber, computeCandidateOf}
-use Rattle.proposal.specs.Values.{emptyStored, stepOf, walkOf}
+use Rattle.dimensions.specs.Empty.{emptyStored}
+use Rattle.proposal.specs.Values.{stepOf, walkOf}
 
 -- that start-up count, no candidates, no noise, one slot
 abbrev settings : ℕ → Settings

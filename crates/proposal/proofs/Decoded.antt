@@ -21,18 +21,19 @@ use Rattle.gp_model.specs.declared.Model.{Model}
 use Rattle.gp_model.specs.Earliest.{Earliest, drawnOf}
 use Rattle.gp_model.specs.Search.{scoreOf, optimizeAcquisitionOf}
 use Rattle.gp_model.proofs.Earliest.{search-earliest}
-use Rattle.history.specs.declared.DimensionInfo.{DimensionInfo}
+use Rattle.dimensions.specs.declared.DimensionInfo.{DimensionInfo}
 use Rattle.history.specs.declared.Training.{Training}
-use Rattle.history.specs.declared.View.{View}
-use Rattle.history.specs.Dimensions.{dimensionAt, continuousOf, columnsOf}
-use Rattle.history.specs.View.{viewOf}
+use Rattle.history_view.specs.declared.View.{View}
+use Rattle.dimensions.specs.Dimensions.{dimensionAt, continuousOf, columnsOf}
+use Rattle.history_view.specs.View.{viewOf}
 use Rattle.settings.specs.declared.Settings.{Settings}
 use Rattle.proposal.specs.declared.Point.{Point}
 use Rattle.proposal.specs.declared.Proposal.{Proposal}
-use Rattle.proposal.specs.declared.Stored.{Stored}
+use Rattle.dimensions.specs.declared.Stored.{Stored}
 use Rattle.proposal.specs.Points.{fitFor, searchPoint, unitPoint, pointFor}
 use Rattle.proposal.specs.Proposal.{fromPoint, atRandom, candidateOf, computeCandidateOf}
-use Rattle.proposal.specs.Values.{emptyStored, decodeOf, stepOf, walkOf}
+use Rattle.dimensions.specs.Empty.{emptyStored}
+use Rattle.proposal.specs.Values.{decodeOf, stepOf, walkOf}
 use Rattle.proposal.proofs.Moving.{fitted, searchable}
 use Rattle.proposal.proofs.Numbers.{accepted-is}
 use Rattle.proposal.proofs.Ranges.{column-below}

@@ -24,12 +24,12 @@ use Rattle.gp_model.specs.Statistics.{lengthscalesOf}
 use Rattle.gp_model.specs.Predict.{countsFit}
 use Rattle.gp_model.specs.Search.{searchDomain, optimizeAcquisitionOf}
 use Rattle.gp_model.proofs.Earliest.{search-earliest}
-use Rattle.history.specs.declared.DimensionInfo.{DimensionInfo}
+use Rattle.dimensions.specs.declared.DimensionInfo.{DimensionInfo}
 use Rattle.history.specs.declared.Training.{Training}
-use Rattle.history.specs.declared.View.{View}
-use Rattle.history.specs.Dimensions.{dimensionAt, columnsOf}
+use Rattle.history_view.specs.declared.View.{View}
+use Rattle.dimensions.specs.Dimensions.{dimensionAt, columnsOf}
 use Rattle.history.specs.Mapping.{numberOf}
-use Rattle.history.specs.View.{viewOf}
+use Rattle.history_view.specs.View.{viewOf}
 use Rattle.settings.specs.declared.Settings.{Settings}
 use Rattle.settings.specs.Settings.{settingsOk}
 use Rattle.common.proofs.Moves.{Moved}

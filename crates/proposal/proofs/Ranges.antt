@@ -24,7 +24,7 @@ use Rattle.rng_util.proofs.Nonzero.{Nonzero, next-nonzero, moved-nonzero}
 use Rattle.rng_util.proofs.Unit as unit
 use Rattle.distribution.specs.declared.Distribution.{Distribution}
 use Rattle.distribution.specs.declared.ParamValue.{ParamValue}
-use Rattle.distribution.specs.RoundTrip.{Held}
+use Rattle.distribution_words.specs.RoundTrip.{Held}
 use Rattle.distribution.specs.Shape.{shapeOf}
 use Rattle.distribution.specs.Taken.{takenOf}
 use Rattle.distribution.proofs.Facts.{parts}
@@ -41,17 +41,18 @@ use Rattle.gp_model.specs.Scaling.{fromNormalizedOf}
 use Rattle.gp_model.specs.Search.{pointOf, optimizeAcquisitionOf}
 use Rattle.gp_model.specs.Statistics.{lengthscalesOf}
 use Rattle.gp_model.proofs.Earliest.{search-earliest}
-use Rattle.history.specs.declared.DimensionInfo.{DimensionInfo}
+use Rattle.dimensions.specs.declared.DimensionInfo.{DimensionInfo}
 use Rattle.history.specs.declared.Training.{Training}
-use Rattle.history.specs.declared.View.{View}
-use Rattle.history.specs.Dimensions.{dimensionAt, continuousOf, dimensionOk, columnsOf}
-use Rattle.history.proofs.Values.{Column, floats-fit, bounds-shape, shape, ends}
+use Rattle.history_view.specs.declared.View.{View}
+use Rattle.dimensions.specs.Dimensions.{dimensionAt, continuousOf, dimensionOk, columnsOf}
+use Rattle.history_view.proofs.Values.{Column, floats-fit, bounds-shape, shape, ends}
 use Rattle.settings.specs.declared.Settings.{Settings}
 use Rattle.proposal.specs.declared.Point.{Point}
-use Rattle.proposal.specs.declared.Stored.{Stored}
+use Rattle.dimensions.specs.declared.Stored.{Stored}
 use Rattle.proposal.specs.Points.{fitFor, searchPoint, unitPoint, pointFor}
 use Rattle.proposal.specs.Proposal.{fromPoint, atRandom, candidateOf}
-use Rattle.proposal.specs.Values.{emptyStored, decodeOf, stepOf, walkOf}
+use Rattle.dimensions.specs.Empty.{emptyStored}
+use Rattle.proposal.specs.Values.{decodeOf, stepOf, walkOf}
 use Rattle.proposal.proofs.Moving.{fitted, searchable, walk-moves, point-moves}
 use Rattle.proposal.proofs.Walk.{walk-length, columns-next}
 

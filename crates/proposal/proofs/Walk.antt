@@ -12,9 +12,10 @@ use Rattle.arith.proofs.Lists.{filled-set-at, places-next}
 use Rattle.rng_util.specs.Generator.{movedOf}
 use Rattle.common.specs.Random.{sampleRandomOf}
 use Rattle.common.proofs.Moves.{Moved, random-moves}
-use Rattle.history.specs.declared.DimensionInfo.{DimensionInfo}
-use Rattle.history.specs.Dimensions.{dimensionAt, continuousOf, columnsOf}
-use Rattle.proposal.specs.Values.{emptyStored, decodeOf, stepOf, walkOf}
+use Rattle.dimensions.specs.declared.DimensionInfo.{DimensionInfo}
+use Rattle.dimensions.specs.Dimensions.{dimensionAt, continuousOf, columnsOf}
+use Rattle.dimensions.specs.Empty.{emptyStored}
+use Rattle.proposal.specs.Values.{decodeOf, stepOf, walkOf}
 
 pub step-moves : (given : Bool) (d : DimensionInfo) (u : Float) (w : ℕ) → Moved w (stepOf given d u w)
 unfolding stepOf

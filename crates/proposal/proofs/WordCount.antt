@@ -12,23 +12,23 @@ use borrow.Author.Tests.{eqb-true, eqb-false}
 use Rattle.arith.specs.Lists.{padded, placesOf}
 use Rattle.rng_util.proofs.Nonzero.{Nonzero, moved-nonzero}
 use Rattle.distribution.specs.declared.Distribution.{Distribution}
-use Rattle.distribution.specs.RoundTrip.{Held}
+use Rattle.distribution_words.specs.RoundTrip.{Held}
 use Rattle.distribution.specs.Shape.{shapeOf}
 use Rattle.common.specs.declared.RandomDraw.{RandomDraw}
 use Rattle.common.specs.Random.{sampleRandomOf}
-use Rattle.common.proofs.EndLaws.{FloatsFit}
+use Rattle.encoding.proofs.EndLaws.{FloatsFit}
 use Rattle.common.proofs.Facts.{random-accepted}
-use Rattle.history.specs.declared.DimensionInfo.{DimensionInfo}
+use Rattle.dimensions.specs.declared.DimensionInfo.{DimensionInfo}
 use Rattle.history.specs.declared.Training.{Training}
-use Rattle.history.specs.declared.View.{View}
-use Rattle.history.specs.Dimensions.{dimensionAt, continuousOf, dimensionOk, dimensionsOk, columnsOf}
+use Rattle.history_view.specs.declared.View.{View}
+use Rattle.dimensions.specs.Dimensions.{dimensionAt, continuousOf, dimensionOk, dimensionsOk, columnsOf}
 use Rattle.history.specs.Mapping.{numberOf}
 use Rattle.history.specs.Training.{recentTraining}
-use Rattle.history.specs.View.{viewOf}
+use Rattle.history_view.specs.View.{viewOf}
 use Rattle.history.proofs.FromArray.{training-is}
-use Rattle.history.proofs.Passed.{accepted}
-use Rattle.history.proofs.Usable.{dimensions-ok}
-use Rattle.history.proofs.Values.{floats-fit, bounds-shape}
+use Rattle.history.proofs.Opened.{accepted}
+use Rattle.dimensions.proofs.Ok.{dimensions-ok}
+use Rattle.history_view.proofs.Values.{floats-fit, bounds-shape}
 use Rattle.settings.specs.declared.Settings.{Settings}
 use Rattle.settings.specs.Settings.{settingsOk}
 use Rattle.proposal.specs.declared.Proposal.{Proposal}

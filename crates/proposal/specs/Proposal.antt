@@ -4,16 +4,17 @@ use mathlib.Core.Bool.{true, false, not, _&&_, cond}
 use mathlib.Core.List.{List, []}
 use lib.Dec.{eqb, leb}
 use Rattle.arith.specs.Lists.{filled, padded}
-use Rattle.history.specs.declared.DimensionInfo.{DimensionInfo}
-use Rattle.history.specs.declared.View.{View}
+use Rattle.dimensions.specs.declared.DimensionInfo.{DimensionInfo}
+use Rattle.history_view.specs.declared.View.{View}
 use Rattle.history.specs.Mapping.{numberOf}
-use Rattle.history.specs.View.{viewOf}
+use Rattle.history_view.specs.View.{viewOf}
 use Rattle.settings.specs.declared.Settings.{Settings}
 use Rattle.settings.specs.Settings.{settingsOk}
 use Rattle.proposal.specs.declared.Point.{Point}
 use Rattle.proposal.specs.declared.Proposal.{Proposal}
 use Rattle.proposal.specs.Points.{pointFor}
-use Rattle.proposal.specs.Values.{emptyStored, Walk, walkOf}
+use Rattle.dimensions.specs.Empty.{emptyStored}
+use Rattle.proposal.specs.Values.{Walk, walkOf}
 
 -- a walk's values after some words
 abbrev pub proposedOf : ℕ → Walk → Proposal

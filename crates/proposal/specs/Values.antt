@@ -3,21 +3,18 @@ use Prim.Native.Nat.{ℕ, zero, suc, _+_}
 use mathlib.Core.Bool.{Bool, _&&_, cond}
 use mathlib.Core.List.{List, [], _∷_, _++_}
 use lib.ListN.{length, getD}
-use lib.Ieee.{Float, nan, binary64, ofBits}
+use lib.Ieee.{Float, nan}
 use Rattle.arith.specs.Lists.{filled}
 use Rattle.distribution.specs.declared.ParamValue.{ParamValue}
 use Rattle.common.specs.declared.RandomDraw.{RandomDraw}
 use Rattle.common.specs.Decode.{fromInternalOf}
 use Rattle.common.specs.Random.{sampleRandomOf}
 use Rattle.gp_model.specs.Scaling.{fromNormalizedOf}
-use Rattle.history.specs.declared.DimensionInfo.{DimensionInfo}
-use Rattle.history.specs.Dimensions.{dimensionAt, continuousOf, columnsOf}
-use Rattle.proposal.specs.declared.Stored.{Stored}
+use Rattle.dimensions.specs.declared.DimensionInfo.{DimensionInfo}
+use Rattle.dimensions.specs.Dimensions.{dimensionAt, continuousOf, columnsOf}
+use Rattle.dimensions.specs.declared.Stored.{Stored}
+use Rattle.dimensions.specs.Empty.{emptyStored}
 use Rattle.proposal.specs.declared.Values.{Values}
-
--- the empty value, which no place holds that is taken
-abbrev pub emptyStored : Stored
-emptyStored = record { value = ParamValue.Float (ofBits binary64 0) }
 
 -- "Decoding scales each to the internal bounds as `gp.rs` does, then applies `from_internal`."
 abbrev pub decodeOf : DimensionInfo → Float → ParamValue

@@ -3,13 +3,8 @@ pub mod points;
 pub mod proposing;
 pub mod walking;
 
-use distribution::ParamValue;
+use dimensions::Stored;
 pub use proposing::compute_candidate;
-
-// A value in an array.
-pub struct Stored {
-    pub value: ParamValue,
-}
 
 // The values of the dimensions in order, the words drawn for them and the generator's next word. What lies past the dimensions is the empty value.
 pub struct Values {

@@ -7,12 +7,12 @@ ghost use Rattle.history.proofs.Counts.{Counts};
 ghost use Rattle.proposal.specs.Proposal.{fromPoint, atRandom, candidateOf, refusedOf, computeCandidateOf};
 use crate::Point;
 use crate::Proposal;
-use crate::Stored;
 use crate::points;
 use crate::walking;
+use dimensions::DimensionInfo;
+use dimensions::Stored;
 use distribution::ParamValue;
-use history::DimensionInfo;
-use history::View;
+use history_view::View;
 use settings::Settings;
 
 // The continuous dimensions decoded from a point, the choices at random.
@@ -96,7 +96,7 @@ pub fn compute_candidate(
     if word == 0 {
         return refused(11, word);
     }
-    let v = history::view_of(s.slots as usize, s.n_startup_trials, dims, k, h);
+    let v = history_view::view_of(s.slots as usize, s.n_startup_trials, dims, k, h);
     let t = v.training;
     let number = t.number;
     if number != 0 {

@@ -2,27 +2,27 @@
 ghost use mathlib.Core.Path.{_≡_};
 ghost use mathlib.Core.Bool.{_&&_, cond};
 ghost use Prim.Native.Nat.{_≤_};
-ghost use Rattle.history.specs.Dimensions.{continuousOf};
+ghost use Rattle.dimensions.specs.Dimensions.{continuousOf};
 ghost use Rattle.proposal.specs.Values.{decodeOf, stepOf, walkOf, valuesIn};
-use crate::Stored;
 use crate::Values;
 use common::RandomDraw;
+use dimensions::DimensionInfo;
+use dimensions::Stored;
 use distribution::Distribution;
 use distribution::ParamValue;
-use history::DimensionInfo;
 
 // 1 for a continuous dimension, else 0.
 fn column_width(d: Distribution) -> usize
     ensures { λ r. ⌜ r ≡ cond (continuousOf d) 1 0 ⌝ }
 {
-    if history::is_continuous(d) { 1 } else { 0 }
+    if dimensions::is_continuous(d) { 1 } else { 0 }
 }
 
 // Whether a dimension's value is decoded.
 fn is_decoded(given: bool, d: Distribution) -> bool
     ensures { λ r. ⌜ r ≡ (given && continuousOf d) ⌝ }
 {
-    given && history::is_continuous(d)
+    given && dimensions::is_continuous(d)
 }
 
 // The decoding of a coordinate.

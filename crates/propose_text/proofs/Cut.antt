@@ -6,7 +6,7 @@ use mathlib.Core.List.{List, [], _∷_, _++_, append-nil}
 use lib.Dec.{eqb}
 use lib.Seq.{append-snoc}
 use borrow.Author.Tests.{eqb-true}
-use Rattle.sampler.specs.declared.Sampler.{Sampler}
+use Rattle.sampler_state.specs.declared.Sampler.{Sampler}
 use Rattle.propose_text.specs.declared.Stage.{Stage}
 use Rattle.propose_text.specs.Steps.{Reading, stepOf, finishOf}
 use Rattle.propose_text.specs.Texts.{readOf, ended}

@@ -10,10 +10,10 @@ use lib.ListN.{length, getD, length-append}
 use Rattle.distribution.specs.Value.{kindOf, wordOf}
 use Rattle.settings.specs.declared.Settings.{Settings}
 use Rattle.settings.specs.Settings.{settingsOk}
-use Rattle.sampler.specs.declared.Sampler.{Sampler}
+use Rattle.sampler_state.specs.declared.Sampler.{Sampler}
 use Rattle.sampler.specs.Calls.{sampleOf}
 use Rattle.sampler.specs.Runs.{answersOf, endOf}
-use Rattle.sampler.specs.State.{makeOf, freshOf}
+use Rattle.sampler_state.specs.State.{makeOf, freshOf}
 use Rattle.propose_text.specs.declared.Stage.{Stage}
 use Rattle.propose_text.specs.Lines.{isWords, wordsIn, answerLine}
 use Rattle.propose_text.specs.Names.{settingsNames, rowNames, slotNames, slotsNames, historyNames, callNames, sameBytes}

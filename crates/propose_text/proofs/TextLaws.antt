@@ -10,9 +10,9 @@ use lib.ListN.{length, length-append}
 use lib.Ieee.{binary64, ofBits, le}
 use Rattle.settings.specs.declared.Settings.{Settings}
 use Rattle.settings.specs.Settings.{settingsOk}
-use Rattle.sampler.specs.declared.Sampler.{Sampler}
+use Rattle.sampler_state.specs.declared.Sampler.{Sampler}
 use Rattle.sampler.specs.Runs.{answersOf, endOf}
-use Rattle.sampler.specs.State.{freshOf, noSampler}
+use Rattle.sampler_state.specs.State.{freshOf, noSampler}
 use Rattle.propose_text.specs.declared.Stage.{Stage}
 use Rattle.propose_text.specs.Laws.{NoCall, TextAnswers, LongLines}
 use Rattle.propose_text.specs.Lines.{isWords, wordsIn, answerLine}

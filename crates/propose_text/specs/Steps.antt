@@ -7,11 +7,11 @@ use lib.ListN.{length, getD, take}
 use lib.Ieee.{binary64, ofBits}
 use Rattle.distribution.specs.Value.{kindOf, wordOf}
 use Rattle.settings.specs.declared.Settings.{Settings}
-use Rattle.sampler.specs.declared.Made.{Made}
+use Rattle.sampler_state.specs.declared.Made.{Made}
 use Rattle.sampler.specs.declared.Sampled.{Sampled}
-use Rattle.sampler.specs.declared.Sampler.{Sampler}
+use Rattle.sampler_state.specs.declared.Sampler.{Sampler}
 use Rattle.sampler.specs.Calls.{sampleOf}
-use Rattle.sampler.specs.State.{makeOf, noSampler}
+use Rattle.sampler_state.specs.State.{makeOf, noSampler}
 use Rattle.propose_text.specs.declared.Reader.{Reader}
 use Rattle.propose_text.specs.declared.Stage.{Stage}
 use Rattle.propose_text.specs.declared.Step.{Step}

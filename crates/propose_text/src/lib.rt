@@ -6,7 +6,7 @@ pub mod names;
 pub mod steps;
 
 pub use names::names_line;
-use sampler::Sampler;
+use sampler_state::Sampler;
 pub use steps::finish;
 pub use steps::read_line;
 pub use steps::start;

@@ -13,7 +13,7 @@ use crate::lines;
 use crate::names;
 use distribution::ParamValue;
 use sampler::Sampled;
-use sampler::Sampler;
+use sampler_state::Sampler;
 use settings::Settings;
 
 // Another line is awaited, and nothing is written.
@@ -66,7 +66,7 @@ fn settings_line(r: Reader, line: &[u8]) -> Step
     if !lines::read_words(line, 5, &mut words, 0) {
         return ending(14, sampler, r.count);
     }
-    let made = sampler::build(Settings {
+    let made = sampler_state::build(Settings {
         n_startup_trials: words[0],
         n_candidates: words[1],
         noise_variance: arith::float_of_word(words[2]),
@@ -180,7 +180,7 @@ fn call_line(r: Reader, line: &[u8], history: &[u64]) -> Step
 pub fn start() -> Reader
     ensures { λ r. ⌜ ((h : List ℕ) → readingOf r h ≡ startOf) ⌝ }
 {
-    let made = sampler::build(Settings {
+    let made = sampler_state::build(Settings {
         n_startup_trials: 0,
         n_candidates: 0,
         noise_variance: 0.0,

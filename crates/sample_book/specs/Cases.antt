@@ -6,7 +6,7 @@ use lib.Signed.{ltZ}
 use lib.Ieee.{binary64, ofBits, ofInt, toBits}
 use Rattle.arith.specs.declared.Outcome.the-variants.{Value}
 use Rattle.arith.specs.Exp.{expOf}
-use Rattle.arith.specs.Ln.{lnOf}
+use Rattle.logarithm.specs.Ln.{lnOf}
 use Rattle.arith.specs.Lists.{filled}
 use Rattle.arith.specs.Outcome.{wordOf}
 use Rattle.arith.specs.Sqrt.{sqrtOf}
@@ -14,7 +14,7 @@ use Rattle.distribution.specs.declared.Distribution.{Distribution}
 use Rattle.distribution.specs.declared.ParamValue.{ParamValue}
 use Rattle.common.specs.Decode.{fromInternalOf}
 use Rattle.common.specs.Random.{sampleRandomOf}
-use Rattle.history.specs.Dimensions.{dimensionOf}
+use Rattle.dimensions.specs.Dimensions.{dimensionOf}
 use Rattle.history.specs.Mapping.{none, mappingOf}
 use Rattle.acquisition.specs.Improvement.{expectedImprovementOf}
 use Rattle.acquisition.specs.Normal.{normCdfOf}

@@ -13,9 +13,9 @@ use Rattle.distribution.specs.declared.FloatDistribution.{FloatDistribution}
 use Rattle.distribution.specs.declared.IntDistribution.{IntDistribution}
 use Rattle.distribution.specs.declared.Distribution.{Distribution}
 use Rattle.distribution.specs.declared.Read.{Read}
-use Rattle.distribution.specs.RoundTrip.{Held}
+use Rattle.distribution_words.specs.RoundTrip.{Held}
 use Rattle.distribution.specs.Shape.{shapeOf}
-use Rattle.distribution.specs.Words.{only, checkedOf, floatRead, intRead, categoricalRead, readOf}
+use Rattle.distribution_words.specs.Words.{only, checkedOf, floatRead, intRead, categoricalRead, readOf}
 
 malformed : (d : Distribution) → Read.Malformed ≡ Read.WellFormed d → ⊥
 malformed d e = let z : _≡_ {A = ℕ} 0 1 = cc in never z

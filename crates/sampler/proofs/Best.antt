@@ -16,23 +16,24 @@ use Rattle.arith.proofs.Lists.{place-is, place-some, each-every}
 use Rattle.arith.proofs.Tests.{taken, untaken}
 use Rattle.distribution.specs.declared.Distribution.{Distribution}
 use Rattle.distribution.specs.declared.Read.{Read}
-use Rattle.distribution.specs.Words.{readOf}
+use Rattle.distribution_words.specs.Words.{readOf}
 use Rattle.distribution.proofs.Facts.{parts}
-use Rattle.history.specs.declared.DimensionInfo.{DimensionInfo}
-use Rattle.history.specs.Dimensions.{dimensionAt, continuousOf, columnsOf}
-use Rattle.history.specs.Tests.{refusalOf}
-use Rattle.history.specs.View.{viewOf}
+use Rattle.dimensions.specs.declared.DimensionInfo.{DimensionInfo}
+use Rattle.dimensions.specs.Dimensions.{dimensionAt, continuousOf, columnsOf}
+use Rattle.history_rows.specs.Tests.{refusalOf}
+use Rattle.history_view.specs.View.{viewOf}
 use Rattle.proposal.specs.declared.Proposal.{Proposal}
 use Rattle.proposal.specs.Proposal.{computeCandidateOf}
-use Rattle.proposal.specs.Values.{emptyStored, decodeOf}
+use Rattle.dimensions.specs.Empty.{emptyStored}
+use Rattle.proposal.specs.Values.{decodeOf}
 use Rattle.proposal.proofs.Decoded.{Decodes, StoresEarliest, stores-earliest}
-use Rattle.sampler.specs.declared.Place.{Place}
+use Rattle.sampler_state.specs.declared.Place.{Place}
 use Rattle.sampler.specs.declared.Sampled.{Sampled}
-use Rattle.sampler.specs.declared.Sampler.{Sampler}
+use Rattle.sampler_state.specs.declared.Sampler.{Sampler}
 use Rattle.sampler.specs.Calls.{refusedOf, withWord, withPlace, activated, unlessRefused, storedOf, newTrialOf, nextOf, activeOf, discoverOf, servedOf, askedOf, sampleOf}
 use Rattle.sampler.specs.NewTrials.{pastDiscovery, newTrial, servedHistory, hasModel, fitMade, fitAnswer, continuous, pointDrawn, Stores, StoresBest, BestStored}
 use Rattle.sampler.specs.Runs.{Asked, asks, closes, Call, callOf}
-use Rattle.sampler.specs.State.{emptyPlace, placeAt, taken as isTaken, holds, trialPlace, freePlace, storedAt, samplerOk}
+use Rattle.sampler_state.specs.State.{emptyPlace, placeAt, taken as isTaken, holds, trialPlace, freePlace, storedAt, samplerOk}
 use Rattle.sampler.proofs.PlaceCounts.{by-test}
 
 -- ---- a trial's place, written

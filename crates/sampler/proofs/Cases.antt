@@ -9,23 +9,23 @@ use Rattle.rng_util.specs.Draws.{wholeDrawOf, wholeOf, rangeOk}
 use Rattle.rng_util.specs.Generator.{nextOf as step}
 use Rattle.distribution.specs.declared.ParamValue.{ParamValue}
 use Rattle.distribution.specs.Shape.{shapeOf, intShape, intStep, categoricalShape}
-use Rattle.distribution.specs.Words.{readOf, checkedOf, intRead, categoricalRead}
-use Rattle.common.specs.Bounds.{boundsOf, endsOf}
+use Rattle.distribution_words.specs.Words.{readOf, checkedOf, intRead, categoricalRead}
+use Rattle.encoding.specs.Bounds.{boundsOf, endsOf}
 use Rattle.common.specs.Random.{sampleRandomOf, randomOf, intRandom, linearIntRandom, categoricalRandom, fromWhole}
-use Rattle.history.specs.Dimensions.{dimensionOk, dimensionsOk, columnsOf}
+use Rattle.dimensions.specs.Dimensions.{dimensionOk, dimensionsOk, columnsOf}
 use Rattle.history.specs.Mapping.{numberOf}
-use Rattle.history.specs.Rows.{wholeRows, rowCount, recentCount, recentOf}
-use Rattle.history.specs.Tests.{recentTests, refusalOf}
+use Rattle.history_rows.specs.Rows.{wholeRows, rowCount, recentCount, recentOf}
+use Rattle.history_rows.specs.Tests.{recentTests, refusalOf}
 use Rattle.history.specs.Training.{trainingOf, recentTraining}
-use Rattle.history.specs.View.{viewOf}
+use Rattle.history_view.specs.View.{viewOf}
 use Rattle.settings.specs.declared.Settings.{Settings}
 use Rattle.settings.specs.Settings.{settingsOk}
 use Rattle.proposal.specs.Proposal.{candidateOf, candidateNumber, computeCandidateOf}
 use Rattle.proposal.specs.Values.{stepOf, walkOf}
 use Rattle.sampler.specs.declared.Sampled.{Sampled}
-use Rattle.sampler.specs.declared.Sampler.{Sampler}
+use Rattle.sampler_state.specs.declared.Sampler.{Sampler}
 use Rattle.sampler.specs.Calls.{withWord, discoverOf, nextOf, newTrialOf, activeOf, servedOf, sampleOf, closeOf}
-use Rattle.sampler.specs.State.{freshOf, trialPlace, freePlace, takenCount, placeOk, trialsOnce, samplerOk}
+use Rattle.sampler_state.specs.State.{freshOf, trialPlace, freePlace, takenCount, placeOk, trialsOnce, samplerOk}
 
 -- start-up 10, no candidates, no noise, seed 1, one slot
 abbrev fresh : Sampler

@@ -17,20 +17,20 @@ use Rattle.arith.proofs.Tests.{untaken, either, or-left, or-right, or-split}
 use Rattle.distribution.proofs.Facts.{parts}
 use Rattle.rng_util.proofs.Nonzero.{Nonzero, nonzero-test}
 use Rattle.distribution.specs.declared.Distribution.{Distribution}
-use Rattle.distribution.specs.RoundTrip.{Held}
+use Rattle.distribution_words.specs.RoundTrip.{Held}
 use Rattle.distribution.specs.Shape.{shapeOf}
-use Rattle.common.specs.declared.InternalBounds.{InternalBounds}
-use Rattle.common.specs.Bounds.{boundsOf}
-use Rattle.common.proofs.EndLaws.{HasEnds, bounds, choice-bounds}
-use Rattle.history.specs.declared.DimensionInfo.{DimensionInfo}
-use Rattle.history.specs.Dimensions.{boundsAre, sameBits, withBounds, noDimension, dimensionAt, dimensionOf, dimensionOk, dimensionsOk}
-use Rattle.history.proofs.Values.{floats-fit}
+use Rattle.encoding.specs.declared.InternalBounds.{InternalBounds}
+use Rattle.encoding.specs.Bounds.{boundsOf}
+use Rattle.encoding.proofs.EndLaws.{HasEnds, bounds, choice-bounds}
+use Rattle.dimensions.specs.declared.DimensionInfo.{DimensionInfo}
+use Rattle.dimensions.specs.Dimensions.{boundsAre, sameBits, withBounds, noDimension, dimensionAt, dimensionOf, dimensionOk, dimensionsOk}
+use Rattle.history_view.proofs.Values.{floats-fit}
 use Rattle.proposal.proofs.Ranges.{Formed}
-use Rattle.sampler.specs.declared.Place.{Place}
-use Rattle.sampler.specs.declared.Sampler.{Sampler}
+use Rattle.sampler_state.specs.declared.Place.{Place}
+use Rattle.sampler_state.specs.declared.Sampler.{Sampler}
 use Rattle.sampler.specs.Calls.{withWord, withPlace, activated, withDimension}
 use Rattle.sampler.specs.Laws.{Typed}
-use Rattle.sampler.specs.State.{emptyPlace, placeAt, taken, holds, storedOk, storedAt, placeOk}
+use Rattle.sampler_state.specs.State.{emptyPlace, placeAt, taken, holds, storedOk, storedAt, placeOk}
 use Rattle.sampler.proofs.Parts.{Once, Ok, Well, formed}
 
 -- two places are one or not

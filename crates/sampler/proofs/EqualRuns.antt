@@ -4,11 +4,11 @@ use mathlib.Core.Path.{_≡_, refl}
 use mathlib.Core.List.{List, [], _∷_}
 use lib.ListN.{length}
 use Rattle.settings.specs.declared.Settings.{Settings}
-use Rattle.sampler.specs.declared.Sampler.{Sampler}
+use Rattle.sampler_state.specs.declared.Sampler.{Sampler}
 use Rattle.sampler.specs.Laws.{EqualRuns}
 use Rattle.sampler.specs.NewTrials.{BestStored}
 use Rattle.sampler.specs.Runs.{Call, callOf, Along}
-use Rattle.sampler.specs.State.{freshOf}
+use Rattle.sampler_state.specs.State.{freshOf}
 use Rattle.sampler.proofs.Best.{best}
 use Rattle.sampler.proofs.Kept.{places-kept}
 use Rattle.sampler.proofs.SameAnswers.{runs-same}

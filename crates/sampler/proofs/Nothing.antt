@@ -18,26 +18,26 @@ use Rattle.distribution.specs.Taken.{takenOf}
 use Rattle.distribution.proofs.Facts.{parts}
 use Rattle.common.specs.Random.{sampleRandomOf}
 use Rattle.history.specs.declared.Training.{Training}
-use Rattle.history.specs.Dimensions.{dimensionAt, dimensionsOk, columnsOf}
+use Rattle.dimensions.specs.Dimensions.{dimensionAt, dimensionsOk, columnsOf}
 use Rattle.history.specs.Mapping.{numberOf}
-use Rattle.history.specs.Rows.{widthOf, wholeRows, rowCount, recentOf, olderOf}
-use Rattle.history.specs.Tests.{firstOf, recentTests, refusalOf}
+use Rattle.history_rows.specs.Rows.{widthOf, wholeRows, rowCount, recentOf, olderOf}
+use Rattle.history_rows.specs.Tests.{firstOf, recentTests, refusalOf}
 use Rattle.history.specs.Training.{recentTraining, trainingOf}
-use Rattle.history.specs.View.{viewOf}
+use Rattle.history_view.specs.View.{viewOf}
 use Rattle.history.proofs.FromArray.{training-is, training-number}
-use Rattle.history.proofs.Passed.{refusal-recent}
-use Rattle.history.proofs.Usable.{usable}
+use Rattle.history_rows.proofs.Passed.{refusal-recent}
+use Rattle.history_view.proofs.Usable.{usable}
 use Rattle.settings.specs.declared.Settings.{Settings}
 use Rattle.settings.specs.Settings.{settingsOk}
 use Rattle.proposal.specs.declared.Proposal.{Proposal}
 use Rattle.proposal.specs.Proposal.{candidateNumber, computeCandidateOf}
-use Rattle.proposal.specs.Values.{emptyStored}
+use Rattle.dimensions.specs.Empty.{emptyStored}
 use Rattle.proposal.proofs.Numbers.{by-history, accepted-is}
 use Rattle.proposal.proofs.Ranges.{InRange, fit-number, random-ranged, candidate-number, candidate-ranged}
-use Rattle.sampler.specs.declared.Sampler.{Sampler}
+use Rattle.sampler_state.specs.declared.Sampler.{Sampler}
 use Rattle.sampler.specs.Laws.{NothingRefused}
 use Rattle.sampler.specs.NewTrials.{servedHistory, fitMade, fitAnswer}
-use Rattle.sampler.specs.State.{storedOk}
+use Rattle.sampler_state.specs.State.{storedOk}
 use Rattle.sampler.proofs.Parts.{Well, well, nonzero, formed}
 
 -- ---- a value in range is one that a place may hold

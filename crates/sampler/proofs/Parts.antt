@@ -13,14 +13,14 @@ use Rattle.arith.proofs.Lists.{every-each, each-every}
 use Rattle.arith.proofs.Tests.{either}
 use Rattle.distribution.proofs.Facts.{parts}
 use Rattle.rng_util.proofs.Nonzero.{Nonzero}
-use Rattle.history.specs.Dimensions.{dimensionAt, dimensionsOk}
-use Rattle.history.proofs.Usable.{dimensions-ok}
+use Rattle.dimensions.specs.Dimensions.{dimensionAt, dimensionsOk}
+use Rattle.dimensions.proofs.Ok.{dimensions-ok}
 use Rattle.settings.specs.Settings.{settingsOk}
 use Rattle.proposal.proofs.Ranges.{Formed}
-use Rattle.sampler.specs.declared.Place.{Place}
-use Rattle.sampler.specs.declared.Sampler.{Sampler}
+use Rattle.sampler_state.specs.declared.Place.{Place}
+use Rattle.sampler_state.specs.declared.Sampler.{Sampler}
 use Rattle.sampler.specs.Laws.{Typed}
-use Rattle.sampler.specs.State.{placeAt, taken, holds, placeOk, trialsOnce, samplerOk}
+use Rattle.sampler_state.specs.State.{placeAt, taken, holds, placeOk, trialsOnce, samplerOk}
 
 -- ---- no trial has two places
 

@@ -14,28 +14,28 @@ use Rattle.arith.proofs.Lists.{every-each, place-found, place-most, place-some,
 use Rattle.arith.proofs.Tests.{taken as holds-true, untaken}
 use Rattle.distribution.specs.declared.Distribution.{Distribution}
 use Rattle.distribution.specs.declared.Read.{Read}
-use Rattle.distribution.specs.Words.{readOf}
+use Rattle.distribution_words.specs.Words.{readOf}
 use Rattle.distribution.proofs.Facts.{parts, asked}
-use Rattle.history.specs.declared.DimensionInfo.{DimensionInfo}
-use Rattle.history.specs.declared.View.{View}
-use Rattle.history.specs.Dimensions.{dimensionsOk}
+use Rattle.dimensions.specs.declared.DimensionInfo.{DimensionInfo}
+use Rattle.history_view.specs.declared.View.{View}
+use Rattle.dimensions.specs.Dimensions.{dimensionsOk}
 use Rattle.history.specs.Mapping.{numberOf}
-use Rattle.history.specs.Rows.{wholeRows}
-use Rattle.history.specs.Tests.{rowOk, slotsOk, idsOnce, rowsAgreeing, recentTests, refusalOf}
-use Rattle.history.specs.View.{viewOf}
-use Rattle.history.proofs.Passed.{everyRecent}
+use Rattle.history_rows.specs.Rows.{wholeRows}
+use Rattle.history_rows.specs.Tests.{rowOk, slotsOk, idsOnce, rowsAgreeing, recentTests, refusalOf}
+use Rattle.history_view.specs.View.{viewOf}
+use Rattle.history_rows.proofs.Passed.{everyRecent}
 use Rattle.settings.specs.declared.Settings.{Settings}
 use Rattle.settings.specs.Settings.{settingsOk}
 use Rattle.proposal.specs.Points.{pointFor}
 use Rattle.proposal.specs.Proposal.{fromPoint, atRandom, candidateOf, candidateNumber, refusedOf as refusedProposal, computeCandidateOf}
-use Rattle.sampler.specs.declared.Place.{Place}
+use Rattle.sampler_state.specs.declared.Place.{Place}
 use Rattle.sampler.specs.declared.Sampled.{Sampled}
-use Rattle.sampler.specs.declared.Sampler.{Sampler}
+use Rattle.sampler_state.specs.declared.Sampler.{Sampler}
 use Rattle.sampler.specs.Calls.{refusedOf, activated, unlessRefused, discoverOf, nextOf, storedOf, newTrialOf, activeOf, servedOf, askedOf, sampleOf, closeOf}
 use Rattle.sampler.specs.Laws.{PlacesCounted}
 use Rattle.sampler.specs.NewTrials.{pastDiscovery, newTrial}
 use Rattle.sampler.specs.Runs.{Asked, asks, callOf}
-use Rattle.sampler.specs.State.{emptyPlace, placeAt, taken, holds, trialPlace, freePlace, takenCount, placeOk, samplerOk}
+use Rattle.sampler_state.specs.State.{emptyPlace, placeAt, taken, holds, trialPlace, freePlace, takenCount, placeOk, samplerOk}
 
 -- ---- the places of a sampler
 

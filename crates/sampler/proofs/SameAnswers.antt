@@ -7,25 +7,25 @@ use lib.Dec.{T, eqb, ltb}
 use Rattle.distribution.specs.declared.Distribution.{Distribution}
 use Rattle.distribution.specs.declared.ParamValue.{ParamValue}
 use Rattle.distribution.specs.declared.Read.{Read}
-use Rattle.distribution.specs.Words.{readOf}
+use Rattle.distribution_words.specs.Words.{readOf}
 use Rattle.common.specs.Random.{sampleRandomOf}
-use Rattle.history.specs.declared.DimensionInfo.{DimensionInfo}
-use Rattle.history.specs.declared.View.{View}
-use Rattle.history.specs.Agree.{Agree}
+use Rattle.dimensions.specs.declared.DimensionInfo.{DimensionInfo}
+use Rattle.history_view.specs.declared.View.{View}
+use Rattle.history_view.specs.Agree.{Agree}
 use Rattle.history.specs.Mapping.{numberOf}
-use Rattle.history.specs.Dimensions.{dimensionsOk}
-use Rattle.history.specs.Tests.{refusalOf}
-use Rattle.history.specs.View.{viewOf}
-use Rattle.history.proofs.Order.{order-free}
+use Rattle.dimensions.specs.Dimensions.{dimensionsOk}
+use Rattle.history_rows.specs.Tests.{refusalOf}
+use Rattle.history_view.specs.View.{viewOf}
+use Rattle.history_view.proofs.Order.{order-free}
 use Rattle.settings.specs.declared.Settings.{Settings}
 use Rattle.settings.specs.Settings.{settingsOk}
 use Rattle.proposal.specs.declared.Proposal.{Proposal}
 use Rattle.proposal.specs.Proposal.{candidateOf, candidateNumber, refusedOf as refusedProposal, computeCandidateOf}
 use Rattle.sampler.specs.declared.Sampled.{Sampled}
-use Rattle.sampler.specs.declared.Sampler.{Sampler}
+use Rattle.sampler_state.specs.declared.Sampler.{Sampler}
 use Rattle.sampler.specs.Calls.{refusedOf, activated, unlessRefused, discoverOf, nextOf, storedOf, newTrialOf, activeOf, servedOf, askedOf, sampleOf}
 use Rattle.sampler.specs.Runs.{Asked, asks, closes, Call, callOf, answerOf, answersOf, endOf, Alike, alike-none, alike-asks, alike-closes}
-use Rattle.sampler.specs.State.{trialPlace, freePlace, samplerOk}
+use Rattle.sampler_state.specs.State.{trialPlace, freePlace, samplerOk}
 use Rattle.sampler.proofs.Kept.{settings-kept}
 
 -- ---- one call with two histories that agree

@@ -17,26 +17,26 @@ use Rattle.rng_util.proofs.Nonzero.{Nonzero, moved-nonzero}
 use Rattle.distribution.specs.declared.Distribution.{Distribution}
 use Rattle.distribution.specs.declared.ParamValue.{ParamValue}
 use Rattle.distribution.specs.declared.Read.{Read}
-use Rattle.distribution.specs.RoundTrip.{Held}
+use Rattle.distribution_words.specs.RoundTrip.{Held}
 use Rattle.distribution.specs.Shape.{shapeOf}
-use Rattle.distribution.specs.Words.{readOf}
+use Rattle.distribution_words.specs.Words.{readOf}
 use Rattle.common.specs.Random.{sampleRandomOf}
 use Rattle.common.proofs.Moves.{random-moves}
-use Rattle.history.specs.Dimensions.{dimensionAt, dimensionsOk}
-use Rattle.history.specs.Tests.{refusalOf}
+use Rattle.dimensions.specs.Dimensions.{dimensionAt, dimensionsOk}
+use Rattle.history_rows.specs.Tests.{refusalOf}
 use Rattle.settings.specs.declared.Settings.{Settings}
 use Rattle.settings.specs.Settings.{settingsOk}
 use Rattle.proposal.specs.declared.Proposal.{Proposal}
 use Rattle.proposal.specs.Proposal.{computeCandidateOf}
-use Rattle.proposal.specs.Values.{emptyStored}
+use Rattle.dimensions.specs.Empty.{emptyStored}
 use Rattle.proposal.proofs.Moving.{compute-moves}
-use Rattle.sampler.specs.declared.Place.{Place}
+use Rattle.sampler_state.specs.declared.Place.{Place}
 use Rattle.sampler.specs.declared.Sampled.{Sampled}
-use Rattle.sampler.specs.declared.Sampler.{Sampler}
+use Rattle.sampler_state.specs.declared.Sampler.{Sampler}
 use Rattle.sampler.specs.Calls.{refusedOf, withWord, withPlace, activated, withDimension, drawnOf, discoverOf, nextOf, storedOf, newTrialOf, activeOf, unlessRefused, servedOf, askedOf, sampleOf, closeOf}
 use Rattle.sampler.specs.Laws.{WellFormed}
 use Rattle.sampler.specs.Runs.{asks, closes, Call, callOf, Along}
-use Rattle.sampler.specs.State.{emptyPlace, freshOf, placeAt, taken, holds, trialPlace, freePlace, storedOk, storedAt, samplerOk}
+use Rattle.sampler_state.specs.State.{emptyPlace, freshOf, placeAt, taken, holds, trialPlace, freePlace, storedOk, storedAt, samplerOk}
 use Rattle.sampler.proofs.Asked.{read-held}
 use Rattle.sampler.proofs.Changes.{free-ok, taken-ok, ok-taken, dimension-formed, with-word, with-place, ended, with-dimension}
 use Rattle.sampler.proofs.Nothing.{slots-least, slots-most, empty-accepted, refusal-small, nothing-refused}

@@ -12,23 +12,23 @@ use Rattle.arith.proofs.Tests.{taken, untaken}
 use Rattle.rng_util.proofs.Nonzero.{Nonzero}
 use Rattle.distribution.specs.declared.Distribution.{Distribution}
 use Rattle.distribution.specs.declared.Read.{Read}
-use Rattle.distribution.specs.RoundTrip.{Held}
-use Rattle.distribution.specs.Words.{readOf}
+use Rattle.distribution_words.specs.RoundTrip.{Held}
+use Rattle.distribution_words.specs.Words.{readOf}
 use Rattle.distribution.proofs.Facts.{parts}
-use Rattle.history.specs.Dimensions.{dimensionAt}
-use Rattle.history.specs.Tests.{refusalOf}
-use Rattle.history.specs.View.{viewOf}
-use Rattle.history.proofs.Values.{floats-fit}
+use Rattle.dimensions.specs.Dimensions.{dimensionAt}
+use Rattle.history_rows.specs.Tests.{refusalOf}
+use Rattle.history_view.specs.View.{viewOf}
+use Rattle.history_view.proofs.Values.{floats-fit}
 use Rattle.proposal.specs.Points.{fitFor}
 use Rattle.proposal.specs.Proposal.{computeCandidateOf}
 use Rattle.proposal.proofs.WordCount.{Drawable, random-word, compute-words}
 use Rattle.sampler.specs.declared.Sampled.{Sampled}
-use Rattle.sampler.specs.declared.Sampler.{Sampler}
+use Rattle.sampler_state.specs.declared.Sampler.{Sampler}
 use Rattle.sampler.specs.Calls.{activated, unlessRefused, discoverOf, nextOf, newTrialOf, activeOf, servedOf, askedOf, sampleOf, closeOf}
 use Rattle.sampler.specs.Laws.{Typed, WordsDrawn, storedNext, wordsTaken}
 use Rattle.sampler.specs.NewTrials.{pastDiscovery, newTrial, servedHistory, hasModel, continuous, choices}
 use Rattle.sampler.specs.Runs.{Asked, asks, closes, Call, callOf}
-use Rattle.sampler.specs.State.{placeAt, trialPlace, freePlace, samplerOk}
+use Rattle.sampler_state.specs.State.{placeAt, trialPlace, freePlace, samplerOk}
 use Rattle.sampler.proofs.Asked.{read-held}
 use Rattle.sampler.proofs.PlaceCounts.{trial-taken, trial-none, taken-active, by-test}
 use Rattle.sampler.proofs.Words.{call}

@@ -8,18 +8,18 @@ use borrow.Author.Tests.{eqb-true}
 use Rattle.rng_util.specs.Generator.{movedOf}
 use Rattle.distribution.specs.declared.Distribution.{Distribution}
 use Rattle.distribution.specs.declared.Read.{Read}
-use Rattle.distribution.specs.Words.{readOf}
+use Rattle.distribution_words.specs.Words.{readOf}
 use Rattle.common.specs.Random.{sampleRandomOf}
 use Rattle.common.proofs.Moves.{random-moves}
-use Rattle.history.specs.Tests.{refusalOf}
+use Rattle.history_rows.specs.Tests.{refusalOf}
 use Rattle.proposal.specs.declared.Proposal.{Proposal}
 use Rattle.proposal.specs.Proposal.{computeCandidateOf}
 use Rattle.proposal.proofs.Moving.{compute-moves}
 use Rattle.sampler.specs.declared.Sampled.{Sampled}
-use Rattle.sampler.specs.declared.Sampler.{Sampler}
+use Rattle.sampler_state.specs.declared.Sampler.{Sampler}
 use Rattle.sampler.specs.Calls.{refusedOf, drawnOf, withDimension, activated, unlessRefused, discoverOf, nextOf, storedOf, newTrialOf, activeOf, servedOf, askedOf, sampleOf, closeOf}
 use Rattle.sampler.specs.Runs.{asks, closes, Call, callOf}
-use Rattle.sampler.specs.State.{placeAt, trialPlace, freePlace, samplerOk}
+use Rattle.sampler_state.specs.State.{placeAt, trialPlace, freePlace, samplerOk}
 
 -- an answer to a call on s
 pub record Right (s : Sampler) (r : Sampled) : Type 0 where

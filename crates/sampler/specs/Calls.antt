@@ -7,17 +7,17 @@ use lib.ListN.{set}
 use Rattle.distribution.specs.declared.Distribution.{Distribution}
 use Rattle.distribution.specs.declared.ParamValue.{ParamValue}
 use Rattle.distribution.specs.declared.Read.{Read}
-use Rattle.distribution.specs.Words.{readOf}
+use Rattle.distribution_words.specs.Words.{readOf}
 use Rattle.common.specs.declared.RandomDraw.{RandomDraw}
 use Rattle.common.specs.Random.{sampleRandomOf}
-use Rattle.history.specs.Dimensions.{dimensionOf}
-use Rattle.history.specs.Tests.{refusalOf}
+use Rattle.dimensions.specs.Dimensions.{dimensionOf}
+use Rattle.history_rows.specs.Tests.{refusalOf}
 use Rattle.proposal.specs.declared.Proposal.{Proposal}
 use Rattle.proposal.specs.Proposal.{computeCandidateOf}
-use Rattle.sampler.specs.declared.Place.{Place}
+use Rattle.sampler_state.specs.declared.Place.{Place}
 use Rattle.sampler.specs.declared.Sampled.{Sampled}
-use Rattle.sampler.specs.declared.Sampler.{Sampler}
-use Rattle.sampler.specs.State.{emptyPlace, placeAt, trialPlace, freePlace, storedAt, samplerOk}
+use Rattle.sampler_state.specs.declared.Sampler.{Sampler}
+use Rattle.sampler_state.specs.State.{emptyPlace, placeAt, trialPlace, freePlace, storedAt, samplerOk}
 
 -- "A refused call returns its number, draws no word and changes nothing it was lent."
 abbrev pub refusedOf : Sampler → ℕ → Sampled

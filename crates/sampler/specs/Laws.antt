@@ -9,20 +9,20 @@ use lib.Ieee.{binary64, fits}
 use Rattle.rng_util.specs.Generator.{movedOf}
 use Rattle.distribution.specs.declared.Distribution.{Distribution}
 use Rattle.distribution.specs.declared.Read.{Read}
-use Rattle.distribution.specs.RoundTrip.{Held}
+use Rattle.distribution_words.specs.RoundTrip.{Held}
 use Rattle.distribution.specs.Shape.{shapeOf}
-use Rattle.distribution.specs.Words.{readOf}
+use Rattle.distribution_words.specs.Words.{readOf}
 use Rattle.common.specs.Random.{sampleRandomOf}
-use Rattle.history.specs.Agree.{Agree}
-use Rattle.history.specs.Dimensions.{dimensionAt}
-use Rattle.history.specs.Tests.{refusalOf}
+use Rattle.history_view.specs.Agree.{Agree}
+use Rattle.dimensions.specs.Dimensions.{dimensionAt}
+use Rattle.history_rows.specs.Tests.{refusalOf}
 use Rattle.settings.specs.declared.Settings.{Settings}
 use Rattle.settings.specs.Settings.{settingsOk}
 use Rattle.proposal.specs.Proposal.{computeCandidateOf}
-use Rattle.sampler.specs.declared.Sampler.{Sampler}
+use Rattle.sampler_state.specs.declared.Sampler.{Sampler}
 use Rattle.sampler.specs.NewTrials.{newTrial, servedHistory, fitMade, fitAnswer, hasModel, continuous, choices, BestStored}
 use Rattle.sampler.specs.Runs.{Asked, asks, closes, Call, callOf, answersOf, endOf, Along, Alike}
-use Rattle.sampler.specs.State.{freshOf, placeAt, trialPlace, takenCount, storedAt, storedOk, samplerOk}
+use Rattle.sampler_state.specs.State.{freshOf, placeAt, trialPlace, takenCount, storedAt, storedOk, samplerOk}
 
 -- ---- demand 3, one statement about the whole list
 

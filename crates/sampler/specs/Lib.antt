@@ -2,4 +2,3 @@ pub mod Calls
 pub mod Laws
 pub mod NewTrials
 pub mod Runs
-pub mod State

@@ -12,14 +12,14 @@ use Rattle.rng_util.specs.Generator.{streamOf}
 use Rattle.gp_model.specs.declared.Fit.{Fit}
 use Rattle.gp_model.specs.declared.Model.{Model}
 use Rattle.gp_model.specs.Search.{scoreOf}
-use Rattle.history.specs.declared.View.{View}
-use Rattle.history.specs.Dimensions.{dimensionAt, continuousOf, columnsOf}
-use Rattle.history.specs.View.{viewOf}
+use Rattle.history_view.specs.declared.View.{View}
+use Rattle.dimensions.specs.Dimensions.{dimensionAt, continuousOf, columnsOf}
+use Rattle.history_view.specs.View.{viewOf}
 use Rattle.proposal.specs.Points.{fitFor}
 use Rattle.proposal.specs.Values.{decodeOf}
-use Rattle.sampler.specs.declared.Sampler.{Sampler}
+use Rattle.sampler_state.specs.declared.Sampler.{Sampler}
 use Rattle.sampler.specs.Runs.{asks, closes, Call, callOf}
-use Rattle.sampler.specs.State.{placeAt, storedAt, trialPlace}
+use Rattle.sampler_state.specs.State.{placeAt, storedAt, trialPlace}
 
 -- ---- "a new trial is one without a place that an accepted `sample` call serves, on the call that ends discovery or later"
 

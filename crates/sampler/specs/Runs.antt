@@ -2,9 +2,9 @@
 use Prim.Native.Nat.{ℕ}
 use mathlib.Core.List.{List, [], _∷_}
 use Rattle.distribution.specs.declared.ParamValue.{ParamValue}
-use Rattle.history.specs.Agree.{Agree}
+use Rattle.history_view.specs.Agree.{Agree}
 use Rattle.sampler.specs.declared.Sampled.{Sampled}
-use Rattle.sampler.specs.declared.Sampler.{Sampler}
+use Rattle.sampler_state.specs.declared.Sampler.{Sampler}
 use Rattle.sampler.specs.Calls.{sampleOf, closeOf}
 
 -- six words asked, as one list of arguments

@@ -4,15 +4,12 @@ ghost use Prim.Native.Nat.{_≤_};
 ghost use Rattle.distribution.specs.declared.Read.{Read};
 ghost use Rattle.sampler.specs.Calls.{askedOf, sampleOf, closeOf};
 use crate::Sampled;
-use crate::Sampler;
-use crate::checking;
-use crate::making;
 use crate::phases;
-use crate::places;
 use crate::states;
 use distribution::Distribution;
 use distribution::ParamValue;
 use distribution::Read;
+use sampler_state::Sampler;
 
 // A well-formed distribution asked: the history's number, or an answer.
 fn asked(s: Sampler, d: Distribution, trial: u64, h: &[u64]) -> Sampled
@@ -20,7 +17,7 @@ fn asked(s: Sampler, d: Distribution, trial: u64, h: &[u64]) -> Sampled
     ensures { λ r. ⌜ r ≡ askedOf s (Read.WellFormed d) trial (now (h .entry)) ⌝ }
 {
     let settings = s.settings;
-    let number = history::refusal(settings.slots as usize, h);
+    let number = history_rows::refusal(settings.slots as usize, h);
     if number != 0 {
         return states::refused(s, number);
     }
@@ -41,10 +38,10 @@ pub fn sample(
 ) -> Sampled
     ensures { λ r. ⌜ r ≡ sampleOf s kind low high log stepped step trial (now (h .entry)) ⌝ }
 {
-    if !checking::sampler_ok(s) {
+    if !sampler_state::sampler_ok(s) {
         return states::refused(s, 11);
     }
-    match distribution::distribution_of(kind, low, high, log, stepped, step) {
+    match distribution_words::distribution_of(kind, low, high, log, stepped, step) {
         Read::WellFormed(d) => asked(s, d, trial, h),
         Read::Malformed => states::refused(s, 2),
     }
@@ -54,11 +51,11 @@ pub fn sample(
 pub fn close(s: Sampler, trial: u64) -> Sampled
     ensures { λ r. ⌜ r ≡ closeOf s trial ⌝ }
 {
-    if !checking::sampler_ok(s) {
+    if !sampler_state::sampler_ok(s) {
         return states::refused(s, 11);
     }
     let places = s.places;
-    let i = places::trial_place(places, trial);
+    let i = sampler_state::trial_place(places, trial);
     if i >= 32 {
         return states::refused(s, 10);
     }
@@ -66,6 +63,6 @@ pub fn close(s: Sampler, trial: u64) -> Sampled
         number: 0,
         value: ParamValue::Refused(0),
         drawn: 0,
-        sampler: states::with_place(s, i, making::empty_place()),
+        sampler: states::with_place(s, i, sampler_state::empty_place()),
     }
 }

@@ -4,13 +4,13 @@ ghost use mathlib.Core.Bool.{_||_};
 ghost use Prim.Native.Nat.{_≤_, _<_};
 ghost use lib.Dec.{eqb};
 ghost use Rattle.sampler.specs.Calls.{discoverOf, nextOf, storedOf, newTrialOf, activeOf, unlessRefused, servedOf};
-use crate::Place;
 use crate::Sampled;
-use crate::Sampler;
 use crate::places;
 use crate::states;
 use distribution::Distribution;
 use proposal::Proposal;
+use sampler_state::Place;
+use sampler_state::Sampler;
 
 // The discovery trial: one more dimension and a random value for it. The 21st is refused.
 fn discover(s: Sampler, d: Distribution, trial: u64) -> Sampled
@@ -73,7 +73,7 @@ fn new_trial(s: Sampler, trial: u64, h: &[u64]) -> Sampled
     ensures { λ r. ⌜ r ≡ newTrialOf s trial (now (h .entry)) ⌝ }
 {
     let places = s.places;
-    let i = places::free_place(places);
+    let i = sampler_state::free_place(places);
     if i >= 32 {
         return states::refused(s, 9);
     }
@@ -89,7 +89,7 @@ fn active(s: Sampler, d: Distribution, trial: u64, h: &[u64]) -> Sampled
     ensures { λ r. ⌜ r ≡ activeOf s d trial (now (h .entry)) ⌝ }
 {
     let places = s.places;
-    let i = places::trial_place(places, trial);
+    let i = sampler_state::trial_place(places, trial);
     if i < 32 {
         return next(s, d, i);
     }

@@ -2,12 +2,12 @@
 ghost use mathlib.Core.Path.{_≡_};
 ghost use Prim.Native.Nat.{_<_};
 ghost use Rattle.sampler.specs.Calls.{refusedOf, withWord, withPlace, activated, withDimension, drawnOf};
-use crate::Place;
 use crate::Sampled;
-use crate::Sampler;
 use common::RandomDraw;
 use distribution::Distribution;
 use distribution::ParamValue;
+use sampler_state::Place;
+use sampler_state::Sampler;
 
 // A refusal: the sampler as it was, and no word drawn.
 pub(crate) fn refused(s: Sampler, number: u64) -> Sampled
@@ -51,7 +51,7 @@ pub(crate) fn with_dimension(mut s: Sampler, trial: u64, d: Distribution) -> Sam
 {
     let k = s.n_dims;
     s.discovery_trial_id = trial;
-    s.dimensions[k] = history::dimension(d);
+    s.dimensions[k] = dimensions::dimension(d);
     s.n_dims = k + 1;
     s
 }

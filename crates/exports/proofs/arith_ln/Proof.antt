@@ -1,6 +1,6 @@
 -- `exports::arith_ln` meets its contract. Assumes nothing.
 use mathlib.Core.Path.{ap, _∙_}
-use Rattle.arith.specs.Ln.{lnOf}
+use Rattle.logarithm.specs.Ln.{lnOf}
 use Rattle.exports.specs.Told.{toldOf}
 use borrow.Author.Needs.{needs}
 use Rattle.exports.proofs.arith_ln.Statement.{statement}

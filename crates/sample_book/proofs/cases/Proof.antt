@@ -2,22 +2,23 @@
 use mathlib.Core.Path.{refl}
 use lib.Ieee.{ofBits, toBits, round, add, sub, mul, div, neg, lt, le, isNan, ofInt, toSigned}
 use Rattle.arith.specs.Exp.{expOf, hornerOf, reducedOf, scaledOf, wholeOf}
-use Rattle.arith.specs.Ln.{lnOf, normal, field, digits, mantissaOf, exponentOf, halvedOf, seriesOf, series}
+use Rattle.logarithm.specs.Ln.{lnOf, normal, field, digits, mantissaOf, exponentOf, halvedOf, seriesOf, series}
 use Rattle.arith.specs.Lists.{grown, every}
 use Rattle.arith.specs.Rounding.{nearestOf, roundOf}
 use Rattle.arith.specs.Sqrt.{sqrtOf}
 use Rattle.distribution.specs.Equal.{equalOf, intEqual}
 use Rattle.distribution.specs.Taken.{takenOf, valueOf, intTaken}
-use Rattle.distribution.specs.Words.{readOf, checkedOf, intRead}
+use Rattle.distribution_words.specs.Words.{readOf, checkedOf, intRead}
 use Rattle.distribution.specs.Shape.{shapeOf, intShape, intStep, categoricalShape}
-use Rattle.common.specs.Bounds.{boundsOf, endsOf}
+use Rattle.encoding.specs.Bounds.{boundsOf, endsOf}
 use Rattle.common.specs.Decode.{fromInternalOf, decodedOf}
 use Rattle.common.specs.Grid.{intGrid}
 use Rattle.common.specs.Random.{sampleRandomOf, randomOf, intRandom, linearIntRandom, categoricalRandom, fromWhole}
-use Rattle.history.specs.Dimensions.{dimensionOk, dimensionsOk}
+use Rattle.dimensions.specs.Dimensions.{dimensionOk, dimensionsOk}
 use Rattle.history.specs.Mapping.{insertById, entriesOf, firstEntry, consumedOf, matchesOf, mappedOf, numberOf, mappingOf}
-use Rattle.history.specs.Rows.{wholeRows, rowCount, recentCount, recentOf}
-use Rattle.history.specs.Tests.{rowOk, slotRead, slotOk, agreeing, slotsOk, idsOnce, rowsAgreeing, recentTests, refusalOf}
+use Rattle.history_rows.specs.Rows.{wholeRows, rowCount, recentCount, recentOf}
+use Rattle.history_rows.specs.Tests.{rowOk, slotsOk, idsOnce, rowsAgreeing, recentTests, refusalOf}
+use Rattle.slots.specs.Slot.{slotRead, slotOk, agreeing}
 use Rattle.acquisition.specs.Improvement.{expectedImprovementOf}
 use Rattle.acquisition.specs.Normal.{normCdfOf}
 use Rattle.rng_util.specs.Draws.{wholeDrawOf, wholeOf as wholeAt, rangeOk}

@@ -7,8 +7,8 @@ use lib.Ieee.{Float}
 use Rattle.arith.proofs.Tests.{taken}
 use Rattle.distribution.specs.declared.Distribution.{Distribution}
 use Rattle.distribution.specs.Shape.{shapeOf}
-use Rattle.common.specs.declared.InternalBounds.{InternalBounds}
-use Rattle.common.specs.Bounds.{boundsOf, endsOf}
+use Rattle.encoding.specs.declared.InternalBounds.{InternalBounds}
+use Rattle.encoding.specs.Bounds.{boundsOf, endsOf}
 use Rattle.common.specs.Decode.{inside, fromInternalOf}
 use Rattle.common.proofs.Domain.{decodable}
 use borrow.Author.Needs.{needs}

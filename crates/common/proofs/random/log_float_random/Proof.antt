@@ -1,7 +1,7 @@
 -- `log_float_random` meets its contract. Assumes nothing.
 use mathlib.Core.Path.{_∙_, ap}
 use Rattle.distribution.specs.declared.Distribution.{Distribution}
-use Rattle.common.specs.Bounds.{endsOf}
+use Rattle.encoding.specs.Bounds.{endsOf}
 use Rattle.common.specs.Random.{logFloatRandom, logFloat, logRange}
 use Rattle.common.proofs.Draws.{from-unit}
 use borrow.Author.Needs.{needs}

@@ -1,7 +1,7 @@
 -- `log_int_random` meets its contract. Assumes nothing.
 use mathlib.Core.Path.{_∙_, sym, ap, subst}
 use Rattle.distribution.specs.declared.Distribution.{Distribution}
-use Rattle.common.specs.Bounds.{endsOf}
+use Rattle.encoding.specs.Bounds.{endsOf}
 use Rattle.common.specs.Decode.{intOf}
 use Rattle.common.specs.GridParts.{OutcomeFits}
 use Rattle.common.specs.Random.{logIntRandom, logRange}

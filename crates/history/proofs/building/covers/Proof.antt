@@ -1,20 +1,24 @@
 -- `history::building::covers` meets its contract. Assumes nothing.
 use mathlib.Core.Path.{sym}
 use Rattle.history.specs.Training.{coversOf}
+use Rattle.history_rows.proofs.Border.{place-with}
 use borrow.Author.Needs.{needs}
 use Rattle.history.proofs.building.covers.Statement.{statement}
 use Rattle.history.proofs.building.covers.Tie as tie
 
-slot-with-requires : tie.Need-slot-with-requires
-slot-with-requires c κs = search needs
+slot-place-requires : tie.Need-slot-place-requires
+slot-place-requires c κs = search needs
 
 returns : tie.Need-returns
 unfolding coversOf
-returns c = rw (c .before .if1 .taken, sym (c .slot-with .ensures))
+returns c =
+    let a = c .before .before .before in
+    let e = place-with (a .args .n) (a .args .row .now) (a .args .m .id) (a .pre .0) (a .pre .1) in
+    rw (c .before .if1 .taken, sym e, sym (c .slot-place .ensures))
 
 returns-2 : tie.Need-returns-2
 unfolding coversOf
 returns-2 c = rw (c .if1 .left)
 
 pub covers-spec : {M : Type 1} → statement M
-covers-spec = tie.close (tie.spec slot-with-requires returns returns-2)
+covers-spec = tie.close (tie.spec slot-place-requires returns returns-2)

@@ -8,11 +8,11 @@ use lib.ListN.{length}
 use Rattle.arith.specs.Lists.{placesOf}
 use Rattle.arith.proofs.Lists.{places-length}
 use Rattle.history.specs.Places.{placesIn, withPlace}
-use Rattle.history.specs.Rows.{widthOf, rowAt}
+use Rattle.history_rows.specs.Rows.{widthOf, rowAt}
 use Rattle.history.specs.Training.{trainsOf}
-use Rattle.history.proofs.Parts.{part, lent-length}
+use Rattle.history_rows.proofs.Parts.{part, lent-length}
 use Rattle.history.proofs.PlaceList.{place-more}
-use Rattle.history.proofs.Recent.{row-inside}
+use Rattle.history_rows.proofs.Recent.{row-inside}
 use borrow.Author.Needs.{needs}
 use Rattle.history.proofs.building.kept.Statement.{statement}
 use Rattle.history.proofs.building.kept.Tie as tie

@@ -6,7 +6,7 @@ use mathlib.Core.List.{List}
 use native.Mathlib.Omega.{arith}
 use Rattle.arith.specs.Lists.{placesOf}
 use Rattle.arith.proofs.Lists.{places-length}
-use Rattle.history.specs.Rows.{rowAt}
+use Rattle.history_rows.specs.Rows.{rowAt}
 use Rattle.history.specs.Training.{trainsOf, builtOf}
 use Rattle.history.proofs.KeptRows.{train-cells}
 use Rattle.history.proofs.PlaceList.{places-lent, places-fit}

@@ -2,7 +2,7 @@
 use mathlib.Core.Path.{_∙_}
 use native.Mathlib.Nat.{le-trans}
 use native.Mathlib.Omega.{arith}
-use Rattle.history.specs.Dimensions.{columnsOf}
+use Rattle.dimensions.specs.Dimensions.{columnsOf}
 use Rattle.history.proofs.FromArray.{column-below, training-same}
 use Rattle.history.proofs.PlaceList.{columns-few, places-lent, places-fit}
 use borrow.Author.Needs.{needs}

@@ -1,5 +1,5 @@
 -- `history::building::y_train` meets its contract. Assumes nothing.
-use Rattle.history.proofs.Parts.{part-at}
+use Rattle.history_rows.proofs.Parts.{part-at}
 use Prim.Native.Nat.{ℕ, _+_, _-_, _*_, _≤_, _<_}
 use mathlib.Core.Path.{_≡_, refl, sym, ap, _∙_}
 use native.Mathlib.Numerals.{add-one}
@@ -8,9 +8,9 @@ use lib.ListN.{length, getD}
 use lib.Ieee.{binary64, ofBits}
 use Rattle.arith.specs.Lists.{grown, listOf, padded}
 use Rattle.arith.proofs.Lists.{grown-set}
-use Rattle.history.specs.Rows.{widthOf, rowAt, objectiveOf}
+use Rattle.history_rows.specs.Rows.{widthOf, rowAt, objectiveOf}
 use Rattle.history.specs.Training.{yOf}
-use Rattle.history.proofs.Recent.{row-inside}
+use Rattle.history_rows.proofs.Recent.{row-inside}
 use borrow.Author.Needs.{needs}
 use Rattle.history.proofs.building.y_train.Statement.{statement}
 use Rattle.history.proofs.building.y_train.Tie as tie

@@ -5,9 +5,9 @@ use mathlib.Core.Path.{_≡_, refl, sym, ap, _∙_}
 use mathlib.Core.Bool.{true, false, not, _&&_}
 use native.Mathlib.Numerals.{add-one}
 use native.Mathlib.Omega.{arith}
-use Rattle.history.proofs.Parts.{part, lent-length}
+use Rattle.history_rows.proofs.Parts.{part, lent-length}
 use Rattle.history.specs.Mapping.{firstEntry, entriesOf, matchesOf}
-use Rattle.history.specs.Rows.{slotAt}
+use Rattle.history_rows.specs.Rows.{slotAt}
 use borrow.Author.Needs.{needs}
 use Rattle.history.proofs.param_mapping.first_entry.Statement.{statement}
 use Rattle.history.proofs.param_mapping.first_entry.Tie as tie

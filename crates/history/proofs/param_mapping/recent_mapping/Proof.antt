@@ -3,9 +3,9 @@ use mathlib.Core.List.{List}
 use native.Mathlib.Nat.{zero-mul}
 use Rattle.arith.specs.Lists.{filled}
 use Rattle.history.specs.Mapping.{none, mappedOf}
-use Rattle.history.specs.Rows.{widthOf}
-use Rattle.history.proofs.Parts.{first-part, part-length}
-use Rattle.history.proofs.Recent.{row-inside}
+use Rattle.history_rows.specs.Rows.{widthOf}
+use Rattle.history_rows.proofs.Parts.{first-part, part-length}
+use Rattle.history_rows.proofs.Recent.{row-inside}
 use Prim.Native.Nat.{ℕ, _+_, _-_, _*_, _≤_, _<_}
 use mathlib.Core.Path.{_≡_, refl, sym, ap, _∙_}
 use native.Mathlib.Omega.{arith}

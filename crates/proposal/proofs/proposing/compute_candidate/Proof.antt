@@ -2,7 +2,7 @@
 use mathlib.Core.Path.{sym, ap, _∙_}
 use native.Mathlib.Omega.{arith}
 use borrow.Author.Tests.{not-true, not-false}
-use Rattle.history.specs.declared.View.{View}
+use Rattle.history_view.specs.declared.View.{View}
 use Rattle.proposal.proofs.Numbers.{refused-is, accepted-is, out-of-range, zero-word, by-history, view-counts, view-dimensions, candidates-few}
 use borrow.Author.Needs.{needs}
 use Rattle.proposal.proofs.proposing.compute_candidate.Statement.{statement}

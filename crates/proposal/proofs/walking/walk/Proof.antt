@@ -8,8 +8,9 @@ use lib.ListN.{length, getD}
 use lib.Ieee.{nan, ofBits}
 use Rattle.arith.specs.Lists.{filled, placesOf}
 use Rattle.arith.proofs.Lists.{filled-set-at}
-use Rattle.history.specs.Dimensions.{dimensionAt, columnsOf}
-use Rattle.proposal.specs.Values.{emptyStored, stepOf, walkOf, valuesIn}
+use Rattle.dimensions.specs.Dimensions.{dimensionAt, columnsOf}
+use Rattle.dimensions.specs.Empty.{emptyStored}
+use Rattle.proposal.specs.Values.{stepOf, walkOf, valuesIn}
 use Rattle.proposal.proofs.Walk.{step-moves, walk-length, walk-few, walk-set, columns-next}
 use borrow.Author.Needs.{needs}
 use Rattle.proposal.proofs.walking.walk.Statement.{statement}

@@ -2,7 +2,7 @@
 use mathlib.Core.Path.{_≡_, sym, _∙_}
 use mathlib.Core.Bool.{true}
 use borrow.Author.Tests.{eq-eqb, ne-eqb, not-true, not-false}
-use Rattle.sampler.specs.State.{makeOf}
+use Rattle.sampler_state.specs.State.{makeOf}
 use Rattle.propose_text.specs.Lines.{isWords, wordsIn}
 use Rattle.propose_text.specs.Steps.{settingsOf, settingsLine}
 use Rattle.propose_text.proofs.Words.{read-at}

@@ -6,8 +6,8 @@ use lib.Ieee.{binary64, ofBits, le, lt, eq}
 use borrow.Author.Needs.{needs}
 use Rattle.settings.specs.declared.Settings.{Settings}
 use Rattle.settings.specs.Settings.{settingsOk}
-use Rattle.sampler.specs.declared.Made.{Made}
-use Rattle.sampler.specs.State.{makeOf, noSampler}
+use Rattle.sampler_state.specs.declared.Made.{Made}
+use Rattle.sampler_state.specs.State.{makeOf, noSampler}
 use Rattle.propose_text.specs.declared.Stage.{Stage}
 use Rattle.propose_text.specs.Steps.{Reading, startOf}
 use Rattle.propose_text.proofs.steps.start.Statement.{statement}

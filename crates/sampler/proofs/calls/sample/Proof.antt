@@ -1,11 +1,11 @@
 -- `sampler::calls::sample` meets its contract. Assumes nothing.
-use Rattle.sampler.proofs.Checked.{dimensions-few}
+use Rattle.sampler_state.proofs.Checked.{dimensions-few}
 use mathlib.Core.Path.{_≡_, sym, ap, _∙_}
 use mathlib.Core.Bool.{true}
 use borrow.Author.Tests.{not-true, not-false}
 use Rattle.arith.proofs.Tests.{taken}
 use Rattle.sampler.specs.Calls.{sampleOf}
-use Rattle.sampler.specs.State.{samplerOk}
+use Rattle.sampler_state.specs.State.{samplerOk}
 use borrow.Author.Needs.{needs}
 use Rattle.sampler.proofs.calls.sample.Statement.{statement}
 use Rattle.sampler.proofs.calls.sample.Tie as tie

@@ -1,6 +1,9 @@
 -- `sampler::phases::served` meets its contract. Assumes nothing.
-use mathlib.Core.Path.{sym}
-use Rattle.sampler.specs.Calls.{servedOf}
+use mathlib.Core.Path.{_≡_, sym, ap, _∙_}
+use mathlib.Core.List.{[]}
+use Rattle.sampler_state.specs.declared.Sampler.{Sampler}
+use Rattle.sampler.specs.Calls.{activated, activeOf, unlessRefused}
+use Rattle.sampler.proofs.Served.{when-active, when-discovering, when-ending}
 use borrow.Author.Needs.{needs}
 use Rattle.sampler.proofs.phases.served.Statement.{statement}
 use Rattle.sampler.proofs.phases.served.Tie as tie
@@ -9,8 +12,9 @@ active-requires : tie.Need-active-requires
 active-requires c κs = search needs
 
 returns : tie.Need-returns
-unfolding servedOf
-returns c = rw (c .active .ensures, c .before .if1 .taken)
+returns c =
+    let a = c .before .before .before .args in
+    c .active .ensures ∙ sym (when-active (a .s) (a .d) (a .trial) (a .h .now) (c .before .if1 .taken))
 
 discovers-requires : tie.Need-discovers-requires
 discovers-requires c κs = search needs
@@ -19,8 +23,10 @@ discover-requires : tie.Need-discover-requires
 discover-requires c κs = search needs
 
 returns-2 : tie.Need-returns-2
-unfolding servedOf
-returns-2 c = rw (c .discover .ensures, c .before .before .before .if1 .left, sym (c .before .before .discovers .ensures), c .before .if2 .taken)
+returns-2 c =
+    let a = c .before .before .before .before .before .args in
+    let e = sym (c .before .before .discovers .ensures) ∙ c .before .if2 .taken in
+    c .discover .ensures ∙ sym (when-discovering (a .s) (a .d) (a .trial) (a .h .now) (c .before .before .before .if1 .left) e)
 
 with-discovery-ended-requires : tie.Need-with-discovery-ended-requires
 with-discovery-ended-requires c κs = search needs
@@ -41,8 +47,14 @@ unless-refused-requires : tie.Need-unless-refused-requires
 unless-refused-requires c κs = search needs
 
 returns-3 : tie.Need-returns-3
-unfolding servedOf
-returns-3 c = rw (c .unless-refused .ensures, c .before .active2 .ensures, c .before .before .before .with-discovery-ended .ensures, c .before .before .before .before .before .before .if1 .left, sym (c .before .before .before .before .before .discovers .ensures), c .before .before .before .before .if2 .left)
+returns-3 c =
+    let f = c .before .before .before .before in
+    let a = f .before .before .before .before .args in
+    let e = sym (f .before .discovers .ensures) ∙ f .if2 .left in
+    let w : c .before .before .before .with-discovery-ended .result ≡ activated (a .s) = c .before .before .before .with-discovery-ended .ensures in
+    c .unless-refused .ensures
+    ∙ ap (unlessRefused (a .s)) (c .before .active2 .ensures ∙ ap (λ (t : Sampler). activeOf t (a .d) (a .trial) []) w)
+    ∙ sym (when-ending (a .s) (a .d) (a .trial) (a .h .now) (f .before .before .if1 .left) e)
 
 pub served-spec : {M : Type 1} → statement M
 served-spec =

@@ -1,8 +1,8 @@
 -- `sampler::places::place_at` meets its contract. Assumes nothing.
 use mathlib.Core.Path.{_≡_}
 use lib.ListN.{length}
-use Rattle.sampler.specs.State.{emptyPlace}
-use Rattle.sampler.proofs.Elements.{same-element}
+use Rattle.sampler_state.specs.State.{emptyPlace}
+use Rattle.sampler_state.proofs.Elements.{same-element}
 use borrow.Author.Needs.{needs}
 use Rattle.sampler.proofs.places.place_at.Statement.{statement}
 use Rattle.sampler.proofs.places.place_at.Tie as tie

@@ -1,9 +1,9 @@
 -- `sampler::places::value_at` meets its contract. Assumes nothing.
 use mathlib.Core.Path.{_≡_, ap}
 use lib.ListN.{length}
-use Rattle.proposal.specs.declared.Stored.{Stored}
-use Rattle.proposal.specs.Values.{emptyStored}
-use Rattle.sampler.proofs.Elements.{same-element}
+use Rattle.dimensions.specs.declared.Stored.{Stored}
+use Rattle.dimensions.specs.Empty.{emptyStored}
+use Rattle.sampler_state.proofs.Elements.{same-element}
 use borrow.Author.Needs.{needs}
 use Rattle.sampler.proofs.places.value_at.Statement.{statement}
 use Rattle.sampler.proofs.places.value_at.Tie as tie

@@ -1,0 +1,5 @@
+mod Cases
+pub mod Order
+pub mod Usable
+pub mod Values
+mod Views

@@ -1,0 +1,5 @@
+pub mod LnLaws
+pub mod LnMono
+mod LnSize
+mod LnSplit
+mod LnTerm
