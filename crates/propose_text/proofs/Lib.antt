@@ -1,5 +1,6 @@
 mod AnswerLine
 mod Bytes
+mod Cases
 mod Cut
 mod LineWords
 mod LongLines
