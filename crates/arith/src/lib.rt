@@ -17,6 +17,7 @@ pub use choice::least;
 pub use choice::lesser;
 pub use choice::positive_part;
 pub use exponential::exp;
+pub use exponential::exp_eight;
 pub use logarithm::ln;
 pub use root::sqrt;
 pub use root::sqrt_is_rounded;

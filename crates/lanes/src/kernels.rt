@@ -2,13 +2,14 @@
 ghost use mathlib.Core.Path.{_≡_};
 ghost use Prim.Native.Nat.{ℕ, _+_, _*_, _≤_, _<_};
 ghost use lib.ListN.{getD, length};
-ghost use lib.Ieee.{nan, binary64, add, sub, div, ofInt};
+ghost use lib.Ieee.{nan, binary64, add, sub, mul, div, neg, ofInt};
 ghost use lib.IntN.{pos};
 ghost use Rattle.arith.specs.Outcome.{valueOf};
 ghost use Rattle.arith.specs.Sums.{sumOver};
-ghost use Rattle.kernel.specs.Matern.{square, atOf};
+ghost use Rattle.kernel.specs.Matern.{square, polynomialOf, atOf};
 ghost use Rattle.lanes.specs.Rows.{cell, eightOf, rowsOf};
 ghost use Rattle.lanes.specs.Kernels.{distanceTerm, kernelRowsOf, kernelLanesOf};
+use crate::roots;
 
 // s and the squares of the scaled differences of a column, lane by lane.
 fn squares(s: &[f64; 8], column: &[f64; 8], x: f64, lengthscale: f64) -> [f64; 8]
@@ -45,18 +46,40 @@ fn distance(
     s
 }
 
-// The kernel by each of eight squared distances.
-fn decays(r_sq: &[f64; 8]) -> [f64; 8]
-    ensures { λ r. ⌜ r ≡ eightOf (λ (p : ℕ). valueOf (atOf (getD (now («r_sq» .entry)) p nan) (ofInt binary64 (pos 1)))) ⌝ }
+// Minus each of eight floats.
+fn negated(q: &[f64; 8]) -> [f64; 8]
+    ensures { λ r. ⌜ r ≡ eightOf (λ (p : ℕ). neg (getD (now (q .entry)) p nan)) ⌝ }
 {
     let mut out = [0.0; 8];
     let mut p = 0;
     while p < 8 {
-        let v = r_sq[p];
-        out[p] = arith::value(kernel::decay(v, kernel::scaled_root(v), 1.0));
+        out[p] = -q[p];
         p += 1;
     }
     out
+}
+
+// The kernel's polynomial by eight squared distances and their scaled roots, times e.
+fn polynomials(r_sq: &[f64; 8], q: &[f64; 8], e: &[f64; 8]) -> [f64; 8]
+    ensures { λ r. ⌜ r ≡ eightOf (λ (p : ℕ). mul binary64 (mul binary64 (ofInt binary64 (pos 1)) (polynomialOf (getD (now (q .entry)) p nan) (getD (now («r_sq» .entry)) p nan))) (getD (now (e .entry)) p nan)) ⌝ }
+{
+    let mut out = [0.0; 8];
+    let mut p = 0;
+    while p < 8 {
+        out[p] = 1.0 * (1.0 + q[p] + 5.0 / 3.0 * r_sq[p]) * e[p];
+        p += 1;
+    }
+    out
+}
+
+// The kernel by each of eight squared distances.
+fn decays(r_sq: &[f64; 8]) -> [f64; 8]
+    ensures { λ r. ⌜ r ≡ eightOf (λ (p : ℕ). valueOf (atOf (getD (now («r_sq» .entry)) p nan) (ofInt binary64 (pos 1)))) ⌝ }
+{
+    let q = roots::scaled_roots(r_sq);
+    let x = negated(&q);
+    let e = arith::exp_eight(&x);
+    polynomials(r_sq, &q, &e)
 }
 
 // The kernel of eight points and each of n rows.
