@@ -1,12 +1,12 @@
 -- Eight candidates side by side are eight candidates one after the other. Assumes nothing.
-use mathlib.Core.Path.{_≡_, refl, sym, ap, _∙_}
+use mathlib.Core.Path.{_≡_, sym, ap, _∙_}
 use mathlib.Core.List.{List, []}
 use Prim.Native.Nat.{ℕ, zero, suc, _+_, _*_, _≤_, _<_}
 use native.Mathlib.Nat.{suc-mul, add-comm}
 use native.Mathlib.Omega.{arith}
 use lib.ListN.{getD}
 use lib.Ieee.{Float, nan}
-use Rattle.arith.specs.Lists.{grown, listOf, filled}
+use Rattle.arith.specs.Lists.{listOf}
 use Rattle.arith.proofs.Lists.{grown-at, grown-length, grown-read, filled-at, list-same}
 use Rattle.lanes.specs.Rows.{cell, eightOf, laneOf, zeroRow}
 use Rattle.lanes.proofs.Rows.{eight-at}
@@ -21,11 +21,6 @@ use Rattle.gp_model.specs.declared.Search.{Search}
 use Rattle.gp_model.specs.declared.Starts.{Starts}
 use Rattle.gp_model.specs.Eights.{Words, startsOf, columnOf, pointsOf, keptEachOf}
 use Rattle.gp_model.specs.Search.{pointOf, scoreOf, advanceOf}
-
--- eight elements fill an array of eight
-pub eight-filled : {A : Type 0} (z : A) (f : ℕ → A) (p : ℕ) → p ≡ 8 → filled z 8 (listOf f p) ≡ listOf f 8
-unfolding grown
-eight-filled z f p e = rw e
 
 -- the word after one point more
 pub word-after : (p d w : ℕ) → movedOf d (movedOf (p * d) w) ≡ movedOf (suc p * d) w

@@ -1,25 +1,25 @@
 -- The scores of eight points side by side: each lane's is the plain score of its point. Assumes nothing.
 use mathlib.Core.Path.{_≡_, refl, sym, ap, _∙_}
 use mathlib.Core.Logic.{inl, inr}
-use mathlib.Core.List.{List, []}
+use mathlib.Core.List.{List}
 use Prim.Native.Nat.{ℕ, _+_, _-_, _*_, _≤_, _<_}
 use native.Mathlib.Nat.{eq-zero-or-pos}
 use native.Mathlib.Omega.{arith}
 use borrow.Author.Tests.{le-leb, eq-eqb}
 use lib.IntN.{pos}
-use lib.ListN.{length, getD, take, drop, replicate, getD-replicate}
+use lib.ListN.{length, getD, take, replicate, getD-replicate}
 use lib.Seq.{ext-getD, getD-take, getD-append-add, length-take-le}
 use lib.Ieee.{Float, nan, binary64, sub, mul, ofBits, ofInt}
 use Rattle.acquisition.specs.Improvement.{expectedImprovementOf}
 use Rattle.arith.specs.Choice.{positivePart}
-use Rattle.arith.specs.Lists.{listOf, filled, padded}
+use Rattle.arith.specs.Lists.{padded}
 use Rattle.arith.specs.Outcome.{valueOf}
 use Rattle.arith.specs.Sqrt.{sqrtOf}
 use Rattle.arith.specs.Sums.{sumOver, products}
 use Rattle.arith.proofs.Lists.{grown-at, grown-length, padded-at, padded-length}
 use Rattle.factor.specs.Solve.{solveOf}
 use Rattle.lanes.specs.Kernels.{kernelRowsOf, kernelLanesOf}
-use Rattle.lanes.specs.Rows.{cell, eightOf, laneOf, lanesOf, rowsOf, zeroRow}
+use Rattle.lanes.specs.Rows.{cell, eightOf, laneOf, lanesOf, rowsOf}
 use Rattle.lanes.specs.Solving.{solveLanesOf}
 use Rattle.lanes.specs.Sums.{dotLanesOf, dotEachOf}
 use Rattle.lanes.proofs.KernelRow.{sum-same}

@@ -8,11 +8,11 @@ use borrow.Author.Tests.{eq-eqb}
 use lib.IntN.{pos}
 use lib.ListN.{length, getD, take, drop, length-drop}
 use lib.Seq.{length-take-le, getD-take, getD-drop}
-use lib.Ieee.{Float, nan, binary64, sub, div, ofInt}
+use lib.Ieee.{Float, nan, binary64, ofInt}
 use Rattle.arith.specs.Outcome.{valueOf}
 use Rattle.arith.specs.Sums.{sumOver}
 use Rattle.arith.proofs.Lists.{grown-at, grown-length}
-use Rattle.kernel.specs.Matern.{square, squaredDistanceOf, atOf, matern52Of}
+use Rattle.kernel.specs.Matern.{squaredDistanceOf, atOf, matern52Of}
 use Rattle.lanes.specs.Rows.{cell, eightOf, laneOf}
 use Rattle.lanes.specs.Kernels.{distanceTerm}
 use Rattle.lanes.proofs.Rows.{eight-at, eight-same}

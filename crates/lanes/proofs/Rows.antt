@@ -1,19 +1,19 @@
 -- Rows of eight, and arrays of rows. Assumes nothing.
-use mathlib.Core.Path.{_≡_, refl, sym, ap, _∙_}
+use mathlib.Core.Path.{_≡_, sym, ap, _∙_}
 use mathlib.Core.List.{List, []}
 use Prim.Native.Nat.{ℕ, suc, _+_, _-_, _≤_, _<_}
 use native.Mathlib.Omega.{arith}
 use lib.ListN.{length, getD, set, replicate, getD-replicate}
 use lib.Seq.{getD-append-add}
 use lib.Ieee.{Float, nan, binary64, ofBits}
-use Rattle.arith.specs.Lists.{grown, listOf, padded}
+use Rattle.arith.specs.Lists.{listOf, padded}
+use Rattle.arith.proofs.FallingLaws.{eight-filled}
 use Rattle.arith.proofs.Lists.{grown-at, grown-length, grown-read, grown-filled-set, filled-at, filled-length, list-same}
 use Rattle.lanes.specs.Rows.{cell, eightOf, lanesOf, rowsOf, zeroRow}
 
 -- a row that is made whole
 pub eight-all : (f : ℕ → Float) (p : ℕ) → p ≡ 8 → padded 8 (listOf f p) ≡ eightOf f
-unfolding grown
-eight-all f p e = rw e
+eight-all f p e = eight-filled (ofBits binary64 0) f p e
 
 -- lane p of a row
 pub eight-at : (f : ℕ → Float) {r : List Float} → r ≡ eightOf f → (p : ℕ) → p < 8 → getD r p nan ≡ f p

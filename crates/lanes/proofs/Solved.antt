@@ -1,17 +1,17 @@
 -- Forward, then backward: each lane is the plain solution. Assumes nothing.
-use mathlib.Core.Path.{_≡_, refl, sym, ap, _∙_}
-use mathlib.Core.List.{List, []}
+use mathlib.Core.Path.{_≡_, sym, _∙_}
+use mathlib.Core.List.{List}
 use Prim.Native.Nat.{ℕ, _≤_, _<_}
 use native.Mathlib.Omega.{arith}
 use borrow.Author.Tests.{le-leb}
 use lib.ListN.{length, getD}
 use lib.Seq.{ext-getD}
 use lib.Ieee.{Float, nan}
-use Rattle.arith.specs.Lists.{listOf, padded}
+use Rattle.arith.specs.Lists.{listOf}
 use Rattle.arith.proofs.Lists.{grown-at, grown-length, list-same, padded-at}
 use Rattle.factor.specs.Solve.{forwardAt, forwardOf, backwardOf, solveOf}
 use Rattle.factor.proofs.Back.{back-length}
-use Rattle.lanes.specs.Rows.{cell, eightOf, laneOf, lanesOf, rowsOf}
+use Rattle.lanes.specs.Rows.{laneOf, lanesOf, rowsOf}
 use Rattle.lanes.proofs.Rows.{eight-same, lanes-at}
 
 -- a list by its elements

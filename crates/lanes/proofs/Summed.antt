@@ -1,9 +1,9 @@
 -- Sums of eight lanes at once: each lane gains its own term. Assumes nothing.
-use mathlib.Core.Path.{_≡_, refl, ap, _∙_}
+use mathlib.Core.Path.{_≡_, refl, _∙_}
 use mathlib.Core.List.{List}
 use Prim.Native.Nat.{ℕ, suc, _<_}
 use lib.ListN.{getD}
-use lib.Ieee.{Float, nan, binary64, add, ofBits}
+use lib.Ieee.{Float, nan, binary64, add}
 use Rattle.arith.specs.Lists.{grown}
 use Rattle.arith.specs.Sums.{sumOver}
 use Rattle.lanes.specs.Rows.{eightOf, zeroRow}

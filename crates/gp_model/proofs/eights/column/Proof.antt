@@ -1,6 +1,6 @@
 -- `gp_model::eights::column` meets its contract: before each turn the arrays hold the p draws passed. Assumes nothing.
-use Prim.Native.Nat.{ℕ, suc, _-_, _*_, _≤_, _<_}
-use mathlib.Core.Path.{_≡_, refl, sym, ap, _∙_}
+use Prim.Native.Nat.{_-_, _≤_}
+use mathlib.Core.Path.{_≡_, refl}
 use native.Mathlib.Numerals.{add-one}
 use native.Mathlib.Omega.{arith}
 use lib.ListN.{getD}
@@ -8,10 +8,10 @@ use lib.Ieee.{binary64, ofBits}
 use Rattle.arith.specs.Lists.{grown, listOf, filled, padded}
 use Rattle.arith.proofs.Lists.{grown-set, grown-filled-set}
 use Rattle.rng_util.specs.Draws.{unitDrawOf}
-use Rattle.gp_model.proofs.Beside.{eight-filled}
+use Rattle.arith.proofs.FallingLaws.{eight-filled}
 use borrow.Author.Needs.{needs}
-use Prim.Native.Nat.{ℕ, suc, _-_, _*_, _≤_, _<_}
-use mathlib.Core.Path.{_≡_, refl, sym, ap, _∙_}
+use Prim.Native.Nat.{_-_, _≤_}
+use mathlib.Core.Path.{_≡_, refl}
 use native.Mathlib.Numerals.{add-one}
 use native.Mathlib.Omega.{arith}
 use lib.ListN.{getD}
@@ -19,7 +19,7 @@ use lib.Ieee.{ofBits}
 use Rattle.arith.specs.Lists.{grown, listOf, filled, padded}
 use Rattle.arith.proofs.Lists.{grown-set, grown-filled-set}
 use Rattle.rng_util.specs.Draws.{unitDrawOf}
-use Rattle.gp_model.proofs.Beside.{eight-filled}
+use Rattle.arith.proofs.FallingLaws.{eight-filled}
 use Rattle.gp_model.proofs.eights.column.Statement.{statement}
 use Rattle.gp_model.proofs.eights.column.Tie as tie
 

@@ -1,6 +1,6 @@
 -- `gp_model::eights::improvements` meets its contract: before each turn the array holds the lanes passed. Assumes nothing.
-use Prim.Native.Nat.{ℕ, suc, _-_, _*_, _≤_, _<_}
-use mathlib.Core.Path.{_≡_, refl, sym, ap, _∙_}
+use Prim.Native.Nat.{_-_, _≤_}
+use mathlib.Core.Path.{_≡_, refl, ap}
 use native.Mathlib.Numerals.{add-one}
 use native.Mathlib.Omega.{arith}
 use lib.IntN.{pos}
@@ -12,10 +12,10 @@ use Rattle.arith.specs.Lists.{grown, listOf, padded}
 use Rattle.arith.specs.Outcome.{valueOf}
 use Rattle.arith.specs.Sqrt.{sqrtOf}
 use Rattle.arith.proofs.Lists.{grown-set}
-use Rattle.gp_model.proofs.Beside.{eight-filled}
+use Rattle.arith.proofs.FallingLaws.{eight-filled}
 use borrow.Author.Needs.{needs}
-use Prim.Native.Nat.{ℕ, suc, _-_, _*_, _≤_, _<_}
-use mathlib.Core.Path.{_≡_, refl, sym, ap, _∙_}
+use Prim.Native.Nat.{_-_, _≤_}
+use mathlib.Core.Path.{_≡_, refl, ap}
 use native.Mathlib.Numerals.{add-one}
 use native.Mathlib.Omega.{arith}
 use lib.IntN.{pos}
@@ -27,7 +27,7 @@ use Rattle.arith.specs.Lists.{grown, listOf, padded}
 use Rattle.arith.specs.Outcome.{valueOf}
 use Rattle.arith.specs.Sqrt.{sqrtOf}
 use Rattle.arith.proofs.Lists.{grown-set}
-use Rattle.gp_model.proofs.Beside.{eight-filled}
+use Rattle.arith.proofs.FallingLaws.{eight-filled}
 use Rattle.gp_model.proofs.eights.improvements.Statement.{statement}
 use Rattle.gp_model.proofs.eights.improvements.Tie as tie
 

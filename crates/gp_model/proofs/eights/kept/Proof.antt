@@ -1,5 +1,5 @@
 -- `gp_model::eights::kept` meets its contract, by whether the point is kept. Assumes nothing.
-use mathlib.Core.Path.{_≡_, refl}
+use mathlib.Core.Path.{_≡_}
 use mathlib.Core.Bool.{true, false}
 use lib.Ieee.{lt}
 use borrow.Author.Needs.{needs}

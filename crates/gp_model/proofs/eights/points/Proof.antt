@@ -1,13 +1,13 @@
 -- `gp_model::eights::points` meets its contract: before each turn the array holds the j coordinates passed, and the words have moved j times. Assumes nothing.
-use Prim.Native.Nat.{ℕ, suc, _-_, _*_, _≤_, _<_}
-use mathlib.Core.Path.{_≡_, refl, sym, ap, _∙_}
+use Prim.Native.Nat.{ℕ, _-_, _≤_, _<_}
+use mathlib.Core.Path.{_≡_, refl}
 use native.Mathlib.Numerals.{add-one}
 use native.Mathlib.Omega.{arith}
 use lib.ListN.{getD}
 use lib.Ieee.{ofBits}
-use Rattle.arith.specs.Lists.{grown, listOf, filled}
+use Rattle.arith.specs.Lists.{grown}
 use Rattle.arith.proofs.Lists.{grown-filled-set}
-use Rattle.lanes.specs.Rows.{eightOf, zeroRow}
+use Rattle.lanes.specs.Rows.{zeroRow}
 use Rattle.rng_util.specs.Generator.{movedOf}
 use Rattle.gp_model.specs.Eights.{pointsOf}
 use Rattle.gp_model.proofs.Beside.{column-values, column-next}

@@ -1,6 +1,6 @@
 -- `gp_model::eights::scores` meets its contract, lane by lane. Assumes nothing.
 use Prim.Native.Nat.{_-_}
-use mathlib.Core.Path.{_≡_, refl, _∙_}
+use mathlib.Core.Path.{_≡_}
 use native.Mathlib.Omega.{arith}
 use Rattle.gp_model.proofs.LaneScores.{score-lanes}
 use borrow.Author.Needs.{needs}

@@ -1,23 +1,25 @@
 -- `gp_model::eights::starts` meets its contract: before each turn the array holds the words before the p points passed. Assumes nothing.
-use Prim.Native.Nat.{ℕ, suc, _-_, _*_, _≤_, _<_}
-use mathlib.Core.Path.{_≡_, refl, sym, ap, _∙_}
+use Prim.Native.Nat.{_-_, _*_, _≤_}
+use mathlib.Core.Path.{_≡_, refl}
 use native.Mathlib.Numerals.{add-one}
 use native.Mathlib.Omega.{arith}
 use Rattle.arith.specs.Lists.{grown, listOf, filled}
 use Rattle.arith.proofs.Lists.{grown-filled-set}
 use Rattle.rng_util.specs.Generator.{movedOf}
-use Rattle.rng_util.proofs.Nonzero.{Nonzero, moved-nonzero}
-use Rattle.gp_model.proofs.Beside.{eight-filled, word-after}
+use Rattle.rng_util.proofs.Nonzero.{moved-nonzero}
+use Rattle.arith.proofs.FallingLaws.{eight-filled}
+use Rattle.gp_model.proofs.Beside.{word-after}
 use borrow.Author.Needs.{needs}
-use Prim.Native.Nat.{ℕ, suc, _-_, _*_, _≤_, _<_}
-use mathlib.Core.Path.{_≡_, refl, sym, ap, _∙_}
+use Prim.Native.Nat.{_-_, _*_, _≤_}
+use mathlib.Core.Path.{_≡_, refl}
 use native.Mathlib.Numerals.{add-one}
 use native.Mathlib.Omega.{arith}
 use Rattle.arith.specs.Lists.{grown, listOf, filled}
 use Rattle.arith.proofs.Lists.{grown-filled-set}
 use Rattle.rng_util.specs.Generator.{movedOf}
-use Rattle.rng_util.proofs.Nonzero.{Nonzero, moved-nonzero}
-use Rattle.gp_model.proofs.Beside.{eight-filled, word-after}
+use Rattle.rng_util.proofs.Nonzero.{moved-nonzero}
+use Rattle.arith.proofs.FallingLaws.{eight-filled}
+use Rattle.gp_model.proofs.Beside.{word-after}
 use Rattle.gp_model.proofs.eights.starts.Statement.{statement}
 use Rattle.gp_model.proofs.eights.starts.Tie as tie
 

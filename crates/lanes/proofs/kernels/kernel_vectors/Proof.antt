@@ -1,6 +1,5 @@
 -- `lanes::kernels::kernel_vectors` meets its contract, by its tests. Assumes nothing.
 use Prim.Native.Nat.{_*_, _≤_}
-use mathlib.Core.Path.{_≡_, refl}
 use native.Mathlib.Nat.{mul-le-mul}
 use native.Mathlib.Omega.{arith}
 use borrow.Author.Tests.{le-leb, lt-leb, eq-eqb, ne-eqb}

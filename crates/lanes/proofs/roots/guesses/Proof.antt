@@ -1,6 +1,5 @@
 -- `lanes::roots::guesses` is safe, and ends. Assumes nothing.
 use Prim.Native.Nat.{_-_, _≤_}
-use native.Mathlib.Omega.{arith}
 use borrow.Author.Needs.{needs}
 use Rattle.lanes.proofs.roots.guesses.Statement.{statement}
 use Rattle.lanes.proofs.roots.guesses.Tie as tie

@@ -1,7 +1,6 @@
 -- `lanes::roots::positive` meets its contract. Assumes nothing.
 use lib.Ieee.{lt, ofBits}
 use Rattle.arith.proofs.Tests.{taken}
-use borrow.Author.Needs.{needs}
 use Rattle.lanes.proofs.roots.positive.Statement.{statement}
 use Rattle.lanes.proofs.roots.positive.Tie as tie
 

@@ -1,9 +1,8 @@
 -- `lanes::roots::root` meets its contract: a guess is answered only where it is the root. Assumes nothing.
 use mathlib.Core.Path.{_≡_, refl, sym, subst}
-use Prim.Native.Nat.{ℕ, suc, _+_, _-_, _/_, _%_, _<_}
+use Prim.Native.Nat.{ℕ, suc, _+_, _-_, _/_, _%_}
 use native.Mathlib.Omega.{arith}
-use lib.Dec.{T}
-use lib.Ieee.{binary64, toBits, fits}
+use lib.Ieee.{binary64, toBits}
 use Rattle.arith.specs.RootParts.{Pattern}
 use Rattle.arith.proofs.Order.{le-of-lt, le-real}
 use Rattle.arith.proofs.Patterns.{no-nan}

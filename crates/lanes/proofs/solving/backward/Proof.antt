@@ -1,6 +1,6 @@
 -- `lanes::solving::backward` meets its contract: before each turn the last m rows are known. Assumes nothing.
-use Prim.Native.Nat.{ℕ, suc, _≤_, _-_, _+_}
-use mathlib.Core.Path.{_≡_, refl}
+use Prim.Native.Nat.{_≤_, _-_}
+use mathlib.Core.Path.{refl}
 use native.Mathlib.Numerals.{add-one}
 use native.Mathlib.Omega.{arith}
 use lib.Ieee.{ofBits}

@@ -1,5 +1,5 @@
 -- `lanes::solving::next` meets its contract: before each turn each lane has lost the k products passed. Assumes nothing.
-use Prim.Native.Nat.{ℕ, _≤_, _<_, _-_, _+_, _*_}
+use Prim.Native.Nat.{_≤_, _-_}
 use mathlib.Core.Path.{_≡_, refl}
 use native.Mathlib.Numerals.{add-one}
 use native.Mathlib.Omega.{arith}
@@ -10,13 +10,11 @@ use Rattle.factor.proofs.Triangle.{at-room}
 use Rattle.lanes.specs.Rows.{cell}
 use Rattle.lanes.proofs.Less.{Lost, lost-more, lost-over, row-start}
 use borrow.Author.Needs.{needs}
-use Prim.Native.Nat.{ℕ, _≤_, _<_, _-_, _+_, _*_}
+use Prim.Native.Nat.{_≤_, _-_}
 use mathlib.Core.Path.{_≡_, refl}
-use native.Mathlib.Nat.{mul-le-mul}
 use native.Mathlib.Numerals.{add-one}
 use native.Mathlib.Omega.{arith}
 use lib.ListN.{getD}
-use lib.Ieee.{nan}
 use Rattle.factor.specs.Triangle.{entry, lessOf}
 use Rattle.factor.proofs.Triangle.{at-room}
 use Rattle.lanes.specs.Rows.{cell}

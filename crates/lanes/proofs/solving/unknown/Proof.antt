@@ -1,6 +1,6 @@
 -- `lanes::solving::unknown` meets its contract: before each turn each lane has lost the k products passed. Assumes nothing.
-use Prim.Native.Nat.{ℕ, _≤_, _<_, _-_, _+_, _*_}
-use mathlib.Core.Path.{_≡_, refl, sym, ap, _∙_}
+use Prim.Native.Nat.{ℕ, _≤_, _-_, _+_}
+use mathlib.Core.Path.{_≡_, refl, ap, _∙_}
 use native.Mathlib.Numerals.{add-one}
 use native.Mathlib.Omega.{arith}
 use mathlib.Core.List.{[]}
@@ -10,7 +10,7 @@ use Rattle.factor.proofs.Triangle.{at-room}
 use Rattle.lanes.specs.Rows.{cell}
 use Rattle.lanes.proofs.Less.{Lost, lost-more, lost-over, row-start, below-entry, below-room}
 use borrow.Author.Needs.{needs}
-use Prim.Native.Nat.{ℕ, _≤_, _<_, _-_, _+_, _*_}
+use Prim.Native.Nat.{ℕ, _≤_, _-_, _+_}
 use mathlib.Core.Path.{_≡_, refl}
 use native.Mathlib.Numerals.{add-one}
 use native.Mathlib.Omega.{arith}
