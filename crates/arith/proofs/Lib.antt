@@ -12,6 +12,7 @@ pub mod Patterns
 pub mod Power
 pub mod ChoiceLaws
 pub mod ExpLaws
+pub mod FallingLaws
 pub mod ExpRange
 pub mod Remainder
 pub mod RootRound

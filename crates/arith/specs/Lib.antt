@@ -1,6 +1,7 @@
 pub mod Bounds
 pub mod Choice
 pub mod Exp
+pub mod ExpParts
 pub mod Lists
 pub mod Outcome
 pub mod RootParts

@@ -1,10 +1,14 @@
 // exp by document 01's recipe.
 ghost use mathlib.Core.Path.{_≡_};
 ghost use mathlib.Core.Bool.{false};
-ghost use Prim.Native.Nat.{_≤_, _<_};
+ghost use Prim.Native.Nat.{ℕ, _≤_, _<_};
 ghost use lib.IntN.{pos};
-ghost use lib.Ieee.{fin, minus};
+ghost use lib.ListN.{getD};
+ghost use lib.Ieee.{nan, fin, minus};
 ghost use Rattle.arith.specs.Exp.{expOf, hornerOf, reducedOf, one};
+ghost use Rattle.arith.specs.ExpParts.{Falling, sizeOf, fallingOf};
+ghost use Rattle.arith.specs.Lists.{listOf};
+ghost use Rattle.arith.specs.Outcome.{valueOf};
 use crate::Outcome;
 use crate::rounding::nearest;
 
@@ -61,4 +65,81 @@ pub fn exp(x: f64) -> Outcome
     } else {
         Outcome::Value(horner(reduced(x, n as f64)) * power_of_two(1023 + n))
     }
+}
+
+// The size of k where x is from -708 up and below 0, else 0.
+fn whole(x: f64) -> u64
+    ensures { λ r. ⌜ r ≡ sizeOf x ⌝ }
+{
+    if x < 0.0 {
+        if x < -708.0 {
+            return 0;
+        }
+        return nearest(x * 1.4426950408889634);
+    }
+    0
+}
+
+// The same of each of eight.
+fn wholes(x: &[f64; 8]) -> [u64; 8]
+    ensures { λ r. ⌜ r ≡ listOf (λ (p : ℕ). sizeOf (getD (now (x .entry)) p nan)) 8 ⌝ }
+{
+    let mut out = [0; 8];
+    let mut p = 0;
+    while p < 8 {
+        out[p] = whole(x[p]);
+        p += 1;
+    }
+    out
+}
+
+// The answer by k = -n.
+fn falling(x: f64, n: u64) -> f64
+    requires { ⌜ n ≤ 1022 ⌝ }
+    ensures { λ r. ⌜ r ≡ fallingOf x n ⌝ }
+{
+    horner(reduced(x, -(n as f64))) * power_of_two(1023 - n)
+}
+
+// The same of each of eight, with no branch.
+fn fallings(x: &[f64; 8], n: &[u64; 8]) -> [f64; 8]
+    requires { ⌜ ((p : ℕ) → p < 8 → getD (now n) p 0 ≤ 1022) ⌝ }
+    ensures { λ r. ⌜ r ≡ listOf (λ (p : ℕ). fallingOf (getD (now (x .entry)) p nan) (getD (now (n .entry)) p 0)) 8 ⌝ }
+{
+    let mut out = [0.0; 8];
+    let mut p = 0;
+    while p < 8 {
+        out[p] = falling(x[p], n[p]);
+        p += 1;
+    }
+    out
+}
+
+// The exponential of x, which is e where x is from -708 up and below 0; a NaN above 709.
+fn settled(x: f64, e: f64) -> f64
+    requires { ⌜ (Falling x → e ≡ valueOf (expOf x)) ⌝ }
+    ensures { λ r. ⌜ r ≡ valueOf (expOf x) ⌝ }
+{
+    if x < 0.0 {
+        if x < -708.0 {
+            return crate::value(exp(x));
+        }
+        return e;
+    }
+    crate::value(exp(x))
+}
+
+// The exponentials of eight floats, side by side; a NaN above 709.
+pub fn exp_eight(x: &[f64; 8]) -> [f64; 8]
+    ensures { λ r. ⌜ r ≡ listOf (λ (p : ℕ). valueOf (expOf (getD (now (x .entry)) p nan))) 8 ⌝ }
+{
+    let n = wholes(x);
+    let e = fallings(x, &n);
+    let mut out = [0.0; 8];
+    let mut p = 0;
+    while p < 8 {
+        out[p] = settled(x[p], e[p]);
+        p += 1;
+    }
+    out
 }

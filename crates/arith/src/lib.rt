@@ -16,6 +16,7 @@ pub use choice::least;
 pub use choice::lesser;
 pub use choice::positive_part;
 pub use exponential::exp;
+pub use exponential::exp_eight;
 pub use root::sqrt;
 pub use root::sqrt_is_rounded;
 pub use rounding::floor;

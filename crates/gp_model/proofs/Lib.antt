@@ -1,5 +1,7 @@
 mod Cases
+pub mod Beside
 pub mod Domain
 pub mod Earliest
+pub mod LaneScores
 pub mod Passes
 pub mod Table

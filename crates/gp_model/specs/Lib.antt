@@ -1,4 +1,5 @@
 pub mod Earliest
+pub mod Eights
 pub mod Fit
 pub mod KernelParts
 pub mod Kernels

@@ -1,4 +1,5 @@
 // The Gaussian-process model of gp.rs: its fit, its prediction and the search for the next point.
+pub mod eights;
 pub mod fitting;
 pub mod kernels;
 pub mod predicting;
@@ -61,4 +62,16 @@ pub struct Search {
     pub word: u64,
     pub best_ei: f64,
     pub best_x: [f64; 20],
+}
+
+// The words before eight points, and the word after them.
+pub struct Starts {
+    pub words: [u64; 8],
+    pub next: u64,
+}
+
+// One coordinate of eight points, and the generators' words after it.
+pub struct Column {
+    pub values: [f64; 8],
+    pub next: [u64; 8],
 }

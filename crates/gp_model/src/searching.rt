@@ -12,10 +12,11 @@ use crate::Candidate;
 use crate::Model;
 use crate::Search;
 use crate::Searched;
+use crate::eights;
 use crate::predicting;
 
 // The next d words as unit floats, and the word after them.
-fn draw(word: u64, d: usize) -> Candidate
+pub(crate) fn draw(word: u64, d: usize) -> Candidate
     requires { ⌜ (0 < word) × (d ≤ 20) ⌝ }
     ensures { λ r. ⌜ r ≡ drawOf d word ⌝ }
 {
@@ -112,7 +113,7 @@ fn candidate<'a>(
     }
 }
 
-// That many candidates more.
+// That many candidates more: eight at a time, and the rest one by one.
 fn advance<'a>(
     x_train: &'a [f64],
     lengthscales: &'a [f64],
@@ -129,6 +130,10 @@ fn advance<'a>(
 {
     let mut s = start;
     let mut i = 0;
+    while candidates - i >= 8 {
+        s = eights::eight_candidates(x_train, lengthscales, cholesky, alpha, f_best, n, d, s);
+        i += 8;
+    }
     while i < candidates {
         s = candidate(x_train, lengthscales, cholesky, alpha, f_best, n, d, s);
         i += 1;

@@ -1,0 +1,9 @@
+pub mod Backward
+pub mod DecayRow
+pub mod Forward
+pub mod KernelRow
+pub mod Less
+pub mod NearRoot
+pub mod Rows
+pub mod Solved
+pub mod Summed

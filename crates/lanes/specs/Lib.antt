@@ -1,0 +1,4 @@
+pub mod Kernels
+pub mod Rows
+pub mod Solving
+pub mod Sums
