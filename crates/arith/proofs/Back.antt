@@ -66,7 +66,7 @@ num⁻-le (inf s) = zero-le
 num⁻-le (fin true m e) = le-refl (m * up e)
 num⁻-le (fin false m e) = zero-le
 
-within-cross : (b x : Float) → T (bound b) → Within b x → num x * den b ≤ num b * den x
+pub within-cross : (b x : Float) → T (bound b) → Within b x → num x * den b ≤ num b * den x
 unfolding le
 within-cross (fin false n d) (fin s m e) B w = cross m e n d w
 
@@ -74,7 +74,7 @@ within-cross (fin false n d) (fin s m e) B w = cross m e n d w
 plain : (x : Float) → T (bound x) → (num⁺ x ≡ num x) × (num⁻ x ≡ 0)
 plain (fin false m e) B = (refl, refl)
 
-bound-finite : (x : Float) → T (bound x) → T (finite x)
+pub bound-finite : (x : Float) → T (bound x) → T (finite x)
 bound-finite (fin false m e) B = tt
 
 bound-within : (x : Float) → T (bound x) → Within x x

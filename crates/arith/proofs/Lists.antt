@@ -1,7 +1,7 @@
 -- The lists of specs/Lists in arrays: writing the next element, and reading one back. Assumes nothing.
 use mathlib.Core.Path.{_≡_, refl, sym, ap, _∙_, subst}
 use mathlib.Core.Logic.{inl, inr}
-use mathlib.Core.Bool.{Bool, true, false, not, _&&_, cond}
+use mathlib.Core.Bool.{Bool, true, false, not, _&&_, cond, and-false}
 use mathlib.Core.List.{List, [], _∷_, _++_}
 use Prim.Native.Nat.{ℕ, zero, suc, _+_, _-_, _≤_, _<_}
 use native.Mathlib.Nat.{eq-or-lt-of-le, le-of-suc-le-suc, not-suc-le-zero}
@@ -115,10 +115,6 @@ every-not (suc n) t i h e =
       | inl q ↦ ap (λ (b : Bool). every n t && b) (subst (λ (k : ℕ). t k ≡ false) q e) ∙ and-false (every n t)
       | inr l ↦ ap (λ (b : Bool). b && t n) (every-not n t i l e)
     ]
-  where
-    and-false : (b : Bool) → (b && false) ≡ false
-    and-false true = refl
-    and-false false = refl
 
 -- equal tests
 pub every-same : (n : ℕ) (t u : ℕ → Bool) → ((i : ℕ) → i < n → t i ≡ u i) → every n t ≡ every n u

@@ -235,9 +235,9 @@ scale-by k false a true b h =
 scale-by k true a false b h = tt
 scale-by k true a true b h = mul-le-mul-right k h
 
-plus : (s : Bool) → unlike s false ≡ s
-plus true = refl
-plus false = refl
+pub unlike-plus : (s : Bool) → unlike s false ≡ s
+unlike-plus true = refl
+unlike-plus false = refl
 
 pub mul-left : (x x' c : Float) → T (finite x) → T (finite x') → T (bound c) → T (le x x') → T (le (mul binary64 x c) (mul binary64 x' c))
 unfolding le mul
@@ -254,7 +254,7 @@ mul-left (fin s m e) (fin s' m' e') (fin false n d) F F' C h =
     let b = n * up d in
     let l : a * down e' * (b * down d) ≡ a * b * (down e' * down d) = mul-mul-mul-comm a (down e') b (down d) in
     let r : a' * down e * (b * down d) ≡ a' * b * (down e * down d) = mul-mul-mul-comm a' (down e) b (down d) in
-    rw (plus s, plus s')
+    rw (unlike-plus s, unlike-plus s')
     (round-signed s (a * b) (down e * down d) s' (a' * b) (down e' * down d) (mul-pos (down-pos e) (down-pos d)) (mul-pos (down-pos e') (down-pos d))
     (subst (λ (x : ℕ). LeS s x s' (a' * b * (down e * down d))) l (subst (λ (x : ℕ). LeS s (a * down e' * (b * down d)) s' x) r (scale-by (b * down d) s (a * down e') s' (a' * down e) (le→ s (a * down e') s' (a' * down e) h)))))
 

@@ -134,7 +134,7 @@ lo q = mid q % B * B + q % B * (q % B) + q
 abbrev pub hi : ℕ → ℕ
 hi q = q / B * (q / B) + mid q / B + lo q / 18014398509481984
 
-product-is : (q : ℕ) → q * (q + 1) ≡ hi q * 18014398509481984 + lo q % 18014398509481984
+pub product-is : (q : ℕ) → q * (q + 1) ≡ hi q * 18014398509481984 + lo q % 18014398509481984
 product-is q = let e = square-parts q in omega arith
 
 pub word-lt : (q nh nl : ℕ) → nl < 2 ^ 54 → nh < hi q → true ≡ leb (nh * 2 ^ 54 + nl) (q * (q + 1))

@@ -1,7 +1,7 @@
 -- From the outcome of a test in the code to the fact, and both cases of a test. Assumes nothing.
 use mathlib.Core.Path.{_≡_, refl, sym, subst}
 use mathlib.Core.Logic.{_⊎_, inl, inr}
-use mathlib.Core.Bool.{Bool, true, false, not, _||_}
+use mathlib.Core.Bool.{Bool, true, false, not, _||_, _&&_, false≢true}
 use lib.Dec.{T, not-T}
 use lib.Ieee.Bits as bits
 
@@ -35,3 +35,8 @@ iff true true f g = refl
 iff true false f g = absurd (f tt)
 iff false true f g = absurd (g tt)
 iff false false f g = refl
+
+-- both tests of a conjunction hold
+pub both : (a b : Bool) → (a && b) ≡ true → (a ≡ true) × (b ≡ true)
+both true b h = (refl, h)
+both false b h = absurd (false≢true h)

@@ -25,7 +25,7 @@ use Rattle.distribution.specs.declared.ParamValue.{ParamValue}
 use Rattle.distribution.specs.Shape.{power, withinZ, floatShape, intShape}
 use Rattle.distribution.specs.Shape as shape
 use Rattle.distribution.specs.Taken.{takenOf}
-use Rattle.distribution.proofs.Facts.{FloatRules, FloatStepRules, float-rules, int-rules}
+use Rattle.distribution.proofs.Facts.{FloatRules, FloatStepRules, float-rules, int-rules, asking}
 use Rattle.distribution.proofs.Whole.{leZ-refl}
 use Rattle.common.specs.Grid.{raisedTo, clampOf, floatGrid, raisedToZ, clampZ}
 use Rattle.encoding.proofs.EndLaws.{leZ-trans}
@@ -96,15 +96,11 @@ float-grid-real d v t w = elim (either (d .stepped)) [ inl s ↦ rw (is-true (d 
 
 -- ---- the Taken rule
 
-when : (a b : Bool) → (T a → T b) → T (not a || b)
-when true b h = h tt
-when false b h = tt
-
 pub take-float : (d : FloatDistribution) (v : Float) → Within (power (pos 53)) v → (T (d .«log_scale») → T (le (power (negsuc 52)) v)) → T (takenOf (Distribution.Float d) (ParamValue.Float v))
 unfolding takenOf
 take-float d v w l =
     and-i (shape.within (power (pos 53)) v) (not (d .«log_scale») || le (power (negsuc 52)) v)
-    (and-i (le (neg (power (pos 53))) v) (le v (power (pos 53))) (lower (power (pos 53)) v w) (upper (power (pos 53)) v w)) (when (d .«log_scale») (le (power (negsuc 52)) v) l)
+    (and-i (le (neg (power (pos 53))) v) (le v (power (pos 53))) (lower (power (pos 53)) v w) (upper (power (pos 53)) v w)) (asking (d .«log_scale») (le (power (negsuc 52)) v) l)
 
 -- a float from low to high
 pub float-inside : (d : FloatDistribution) (v : Float) → T (floatShape d) → Between (d .low) (d .high) v → T (takenOf (Distribution.Float d) (ParamValue.Float v))
@@ -121,4 +117,4 @@ int-inside d z t l h =
     let r = int-rules d t in
     and-i (withinZ (pos (2 ^ 52)) z) (not (d .«log_scale») || leZ (pos 1) z)
     (and-i (leZ (negℤ (pos (2 ^ 52))) z) (leZ z (pos (2 ^ 52))) (leZ-trans (negℤ (pos (2 ^ 52))) (d .low) z (r .low .least) l) (leZ-trans z (d .high) (pos (2 ^ 52)) h (r .high .most)))
-    (when (d .«log_scale») (leZ (pos 1) z) (λ k. leZ-trans (pos 1) (d .low) z (r .log k) l))
+    (asking (d .«log_scale») (leZ (pos 1) z) (λ k. leZ-trans (pos 1) (d .low) z (r .log k) l))

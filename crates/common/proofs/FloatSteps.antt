@@ -32,6 +32,7 @@ use Rattle.distribution.specs.Shape.{power, floatShape}
 use Rattle.distribution.proofs.Facts.{FloatStepRules, float-rules}
 use Rattle.common.proofs.Domain.{positive-within}
 use Rattle.common.proofs.Clamp.{step-size}
+use Rattle.arith.proofs.Back.{within-cross, bound-finite}
 
 -- ---- a quotient, rounded, is at most 64/63 of itself, where it is 1 or more
 
@@ -172,13 +173,6 @@ middle = record { ends = tt; difference = tt; B-bound = tt; C-bound = tt; C-fits
 highest : Part (power (pos 51)) (power (pos 52)) (power (pos 51)) (fin false 33 (pos 46))
 unfolding sub add neg le fits ofBits
 highest = record { ends = tt; difference = tt; B-bound = tt; C-bound = tt; C-fits = tt; ratio = lit≤ tt; least = tt; most = tt }
-
-within-cross : (b x : Float) → T (bound b) → Within b x → num x * den b ≤ num b * den x
-unfolding le
-within-cross (fin false n d) (fin s m e) B w = cross m e n d w
-
-bound-finite : (x : Float) → T (bound x) → T (finite x)
-bound-finite (fin false m e) B = tt
 
 above-num : (x : Float) → T (finite x) → T (lt zeroF x) → 0 < num x
 above-num (fin s m e) F h = mul-pos (zero-lt s m e h .1) (up-pos e)

@@ -16,7 +16,7 @@ use lib.Ieee.Positive.{positive, above, above-of-le}
 use Rattle.arith.specs.Bounds.{Within}
 use Rattle.arith.specs.Rounding.{floorOf}
 use Rattle.arith.proofs.Order as order
-use Rattle.arith.proofs.Mono.{zero-round, sub-left, add-right}
+use Rattle.arith.proofs.Mono.{zero-round, sub-left, add-right, neg-finite}
 use Rattle.arith.proofs.Tests.{either, or-split}
 use Rattle.arith.proofs.Within as sizes
 use Rattle.distribution.specs.declared.FloatDistribution.{FloatDistribution}
@@ -30,12 +30,6 @@ use Rattle.distribution.proofs.Equals.{eq-sym, eq-le, le-eq, beq-is, Sa
 use Rattle.distribution.proofs.Whole.{eqZ-is}
 
 -- ---- the difference
-
-neg-finite : (y : Float) → T (finite y) → T (finite (neg y))
-unfolding neg
-neg-finite nan h = h
-neg-finite (inf s) h = h
-neg-finite (fin s m e) h = h
 
 module _ (x x' y y' : Float) (F : T (finite x)) (F' : T (finite x')) (G : T (finite y)) (G' : T (finite y')) where
   sub-mono : T (le x x') → T (le y' y) → T (le (sub binary64 x y) (sub binary64 x' y'))

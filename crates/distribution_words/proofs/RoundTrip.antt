@@ -61,11 +61,11 @@ reads (Distribution.Categorical d) h t = checked-is (Distribution.Categorical d)
 never : _≡_ {A = ℕ} 0 1 → ⊥
 never z = omega arith
 
-malformed : (d : Distribution) → Read.Malformed ≡ Read.WellFormed d → ⊥
+pub malformed : (d : Distribution) → Read.Malformed ≡ Read.WellFormed d → ⊥
 malformed d e = let z : _≡_ {A = ℕ} 0 1 = cc in never z
 
 -- what is well-formed passed the test
-only-is : (b : Bool) (r : Read) (d : Distribution) → only b r ≡ Read.WellFormed d → T b × (r ≡ Read.WellFormed d)
+pub only-is : (b : Bool) (r : Read) (d : Distribution) → only b r ≡ Read.WellFormed d → T b × (r ≡ Read.WellFormed d)
 only-is true r d e = (tt, e)
 only-is false r d e = absurd (malformed d e)
 

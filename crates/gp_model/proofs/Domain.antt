@@ -11,11 +11,7 @@ use Rattle.gp_model.specs.Fit.{fitDomain}
 use Rattle.gp_model.specs.Predict.{countsFit}
 use Rattle.gp_model.specs.Search.{searchDomain}
 use Rattle.gp_model.specs.declared.Model.{Model}
-
--- both tests of a conjunction hold
-both : (a b : Bool) → (a && b) ≡ true → (a ≡ true) × (b ≡ true)
-both true b h = (refl, h)
-both false b h = absurd (true≢false (sym h))
+use Rattle.arith.proofs.Tests.{both}
 
 pub model-counts : (n d : ℕ) → countsFit n d ≡ true → (1 ≤ n) × (n ≤ 100) × (1 ≤ d) × (d ≤ 20)
 unfolding countsFit

@@ -26,7 +26,7 @@ use Rattle.gp_model.specs.Earliest.{drawnOf, Earliest}
 use Rattle.gp_model.specs.Predict.{posteriorAt}
 use Rattle.gp_model.specs.Search.{pointOf, scoreOf, startOf, candidateOf, advanceOf, foundOf, searchDomain, optimizeAcquisitionOf}
 use Rattle.gp_model.proofs.Domain.{search-columns}
-use Rattle.gp_model.proofs.Table.{row-end}
+use Rattle.lanes.proofs.KernelRow.{row-end}
 
 -- ---- scores
 pub score-real : (m : Model) (p : List Float) → real (scoreOf m p)

@@ -14,7 +14,7 @@ use Rattle.arith.proofs.Lists.{grown-at, grown-padded-at, list-same}
 use Rattle.kernel.specs.Matern.{squaredOf, scaledRootOf, decayOf, matern52Of}
 use Rattle.gp_model.specs.KernelParts.{distancesOf, scaledRootsOf, decaysOf}
 use Rattle.gp_model.specs.Kernels.{rowOf, similarityOf, kernelVectorOf}
-use Rattle.gp_model.proofs.Table.{row-end}
+use Rattle.lanes.proofs.KernelRow.{row-end}
 
 -- one row: the kernel is the last pass over the first two
 pub row-similarity : (p row l : List Float) → length p ≡ length row → length p ≡ length l

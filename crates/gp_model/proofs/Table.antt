@@ -3,9 +3,6 @@ use Prim.Native.Nat.{ℕ, suc, _+_, _*_, _≤_, _<_}
 use native.Mathlib.Nat.{mul-le-mul, mul-le-mul-right, suc-mul}
 use native.Mathlib.Omega.{arith}
 
-pub row-end : (i n d : ℕ) → i < n → i * d + d ≤ n * d
-row-end i n d h = let e = suc-mul i d in let l : suc i * d ≤ n * d = mul-le-mul-right d h in omega arith
-
 pub table-small : (n d : ℕ) → n ≤ 100 → d ≤ 20 → n * d ≤ 2000
 table-small n d p q = mul-le-mul p q
 

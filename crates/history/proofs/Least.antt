@@ -1,7 +1,7 @@
 -- The first entry by id for which a test holds is the one of least id: what a scan through the slots finds. Assumes nothing.
 use Prim.Native.Nat.{ℕ, zero, suc, _≤_}
 use mathlib.Core.Path.{_≡_, refl}
-use mathlib.Core.Bool.{Bool, true, false, not, _&&_, _||_, cond}
+use mathlib.Core.Bool.{Bool, true, false, not, _&&_, _||_, cond, and-false}
 use mathlib.Core.List.{List, [], _∷_}
 use native.Mathlib.Nat.{le-trans}
 use native.Mathlib.Omega.{arith}
@@ -75,10 +75,6 @@ first-below t x (w ∷ ws) h e = go (first-below t x ws (and-r (leb x (idOf w)) 
 -- the better of a slot and what was found
 abbrev chosen : (List ℕ → Bool) → List ℕ → Mapped → Mapped
 chosen t v m = cond (t v && (not (m .found) || ltb (idOf v) (m .id))) (record { found = true; id = idOf v }) m
-
-and-false : (b : Bool) → (b && false) ≡ false
-and-false true = refl
-and-false false = refl
 
 -- a slot before all that could be found
 chosen-first : (t : List ℕ → Bool) (v : List ℕ) (m : Mapped) → (m .found ≡ true → ltb (idOf v) (m .id) ≡ true) → cond (t v) (record { found = true; id = idOf v }) m ≡ chosen t v m

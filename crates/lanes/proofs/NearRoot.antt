@@ -7,11 +7,7 @@ use native.Mathlib.Numerals.{add-one}
 use native.Mathlib.Omega.{arith}
 use Rattle.arith.specs.RootParts.{Near, Pattern}
 use Rattle.arith.proofs.RootValue.{pattern-even, pattern-odd}
-use Rattle.arith.proofs.RootWhole.{square-parts, lo, hi}
-
--- q * (q + 1) in two words
-product-is : (q : ℕ) → q * (q + 1) ≡ hi q * 18014398509481984 + lo q % 18014398509481984
-product-is q = let e = square-parts q in omega arith
+use Rattle.arith.proofs.RootWhole.{lo, hi, product-is}
 
 -- the product before it
 before : (q : ℕ) → 0 < q → q * (q + 1) ≡ (q - 1) * (q - 1 + 1) + 2 * q

@@ -20,6 +20,7 @@ use Rattle.logarithm.specs.Ln.{series, whole}
 use Rattle.arith.proofs.Order as order
 use Rattle.arith.proofs.Within.{bound, upper, mul-in, add-in, within-finite, abs-round, neg-round, negative-round}
 use Rattle.logarithm.proofs.LnSize.{s-of}
+use Rattle.arith.proofs.Mono.{unlike-plus}
 
 -- ---- a test at each number below n
 abbrev pub each : (ℕ → Bool) → ℕ → Bool
@@ -271,10 +272,6 @@ signed true x = neg x
 signed-round : (s : Bool) (n d : ℕ) → round binary64 s n d ≡ signed s (round binary64 false n d)
 signed-round false n d = refl
 signed-round true n d = sym (neg-round binary64 n d)
-
-unlike-plus : (s : Bool) → unlike s false ≡ s
-unlike-plus true = refl
-unlike-plus false = refl
 
 exchange : (x g n c a p : ℕ) → x * c ≡ a * p → x * g * (n * c) ≡ a * g * (n * p)
 exchange x g n c a p h =

@@ -1,7 +1,7 @@
 -- Lines of words: printed and read again. Assumes nothing.
 use Prim.Native.Nat.{ℕ, zero, suc, _+_, _*_, _-_, _^_, _≤_, _<_}
 use mathlib.Core.Path.{_≡_, refl, sym, ap, ap₂, subst, _∙_}
-use mathlib.Core.Bool.{Bool, true, false, not, _&&_, false≢true}
+use mathlib.Core.Bool.{Bool, true, false, not, _&&_, false≢true, and-assoc, and-true}
 use mathlib.Core.List.{List, [], _∷_, _++_}
 use native.Mathlib.Numerals.{add-one}
 use native.Mathlib.Nat.{mul-suc, suc-add}
@@ -21,21 +21,14 @@ use Rattle.propose_text.specs.Names.{callNames}
 use Rattle.propose_text.specs.Texts.{lineOf, Sized, Words}
 use Rattle.propose_text.proofs.Words.{words-length}
 use Rattle.propose_text.proofs.Cut.{plain, plain-append}
+use Rattle.arith.proofs.Tests.{both}
 
 -- ---- tests and lists from the front
 
 every-front : (n : ℕ) (t : ℕ → Bool) → every (suc n) t ≡ (t 0 && every n (λ i. t (suc i)))
 unfolding every
-every-front zero t = swap (t 0)
-  where
-    swap : (b : Bool) → (true && b) ≡ (b && true)
-    swap true = refl
-    swap false = refl
-every-front (suc n) t = ap (λ (b : Bool). b && t (suc n)) (every-front n t) ∙ regroup (t 0) (every n (λ i. t (suc i))) (t (suc n))
-  where
-    regroup : (a b c : Bool) → ((a && b) && c) ≡ (a && (b && c))
-    regroup true b c = refl
-    regroup false b c = refl
+every-front zero t = sym (and-true (t 0))
+every-front (suc n) t = ap (λ (b : Bool). b && t (suc n)) (every-front n t) ∙ and-assoc (t 0) (every n (λ i. t (suc i))) (t (suc n))
 
 list-front : (f : ℕ → ℕ) (n : ℕ) → listOf f (suc n) ≡ f 0 ∷ listOf (λ i. f (suc i)) n
 unfolding grown
@@ -136,10 +129,6 @@ words-printed k (w ∷ ws) h =
     subst (λ (n : ℕ). (isWords n (lineOf (w ∷ ws)) ≡ true) × (wordsIn n (lineOf (w ∷ ws)) ≡ w ∷ ws)) (h .count) (printed w ws (h .sized))
 
 -- ---- read, then printed
-
-pub both : (a b : Bool) → (a && b) ≡ true → (a ≡ true) × (b ≡ true)
-both true b h = (refl, h)
-both false b h = absurd (false≢true h)
 
 is-word : (p : Parsed) → isWord p ≡ true → p ≡ Parsed.Word (wordOf p)
 is-word (Parsed.Word w) h = refl

@@ -21,8 +21,9 @@ use Rattle.propose_text.specs.Steps.{Reading, Stepped, ends, settingsOf,
 use Rattle.propose_text.specs.Texts.{readOf, ended, writtenOf, lineOf, linesOf, Words, Table, joined, Document, WellFormed, slotsIn, headOf, textOf, callsOf, answerLines, answersTo}
 use Rattle.propose_text.proofs.Bytes.{same-equal}
 use Rattle.propose_text.proofs.Cut.{plain, read-ended, read-rest, Cut, no-line, a-line, cut}
-use Rattle.propose_text.proofs.LineWords.{both, words-read-back, line-plain}
+use Rattle.propose_text.proofs.LineWords.{words-read-back, line-plain}
 use Rattle.propose_text.proofs.Tables.{at, last-line, next-line, read-settings-names, read-settings, read-refused, read-history-names, read-rows, row-step, read-call-names, read-calls}
+use Rattle.arith.proofs.Tests.{both}
 
 abbrev line14 : List ℕ
 line14 = answerLine 0 0 14 0

@@ -16,17 +16,7 @@ use Rattle.distribution.specs.declared.Read.{Read}
 use Rattle.distribution_words.specs.RoundTrip.{Held}
 use Rattle.distribution.specs.Shape.{shapeOf}
 use Rattle.distribution_words.specs.Words.{only, checkedOf, floatRead, intRead, categoricalRead, readOf}
-
-malformed : (d : Distribution) → Read.Malformed ≡ Read.WellFormed d → ⊥
-malformed d e = let z : _≡_ {A = ℕ} 0 1 = cc in never z
-  where
-    never : _≡_ {A = ℕ} 0 1 → ⊥
-    never z = omega arith
-
--- what is well-formed passed the test
-only-is : (b : Bool) (r : Read) (d : Distribution) → only b r ≡ Read.WellFormed d → T b × (r ≡ Read.WellFormed d)
-only-is true r d e = (tt, e)
-only-is false r d e = absurd (malformed d e)
+use Rattle.distribution_words.proofs.RoundTrip.{malformed, only-is}
 
 pick : (b : Bool) (x y : Read) (d : Distribution) → cond b x y ≡ Read.WellFormed d → (x ≡ Read.WellFormed d) ⊎ (y ≡ Read.WellFormed d)
 pick true x y d e = inl e

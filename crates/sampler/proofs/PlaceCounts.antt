@@ -1,7 +1,7 @@
 -- How many places are taken: one more after an accepted new trial, one less after an accepted close; 9 exactly when all 32 are taken and the trial has none. Assumes nothing.
 use Prim.Native.Nat.{ℕ, _+_, _≤_, _<_}
 use mathlib.Core.Path.{_≡_, refl, sym, ap, _∙_, subst}
-use mathlib.Core.Bool.{Bool, true, false, not, _&&_, _||_, cond}
+use mathlib.Core.Bool.{Bool, true, false, not, _&&_, _||_, cond, and-assoc}
 use mathlib.Core.List.{List, []}
 use native.Mathlib.Omega.{arith}
 use lib.Dec.{T, T-not, eqb, leb, ltb}
@@ -287,12 +287,8 @@ unfolding newTrial
 places-counted = record {
   sampled = λ s d trial h t.
       sampled s d trial h (t .places)
-      ∙ ap (λ (b : Bool). takenCount (s .places) + cond b 1 0) (sym (regrouped (eqb (callOf s (asks d trial h) .number) 0) (pastDiscovery s trial) (eqb (trialPlace (s .places) trial) 32)));
+      ∙ ap (λ (b : Bool). takenCount (s .places) + cond b 1 0) (sym (and-assoc (eqb (callOf s (asks d trial h) .number) 0) (pastDiscovery s trial) (eqb (trialPlace (s .places) trial) 32)));
   closed = λ s trial t. closed s trial (t .places);
   full = only-full;
   ninth = ninth;
 }
-  where
-    regrouped : (a b c : Bool) → ((a && b) && c) ≡ (a && (b && c))
-    regrouped true b c = refl
-    regrouped false b c = refl

@@ -7,7 +7,7 @@ use lib.Ieee.{ofBits}
 use Rattle.arith.specs.Lists.{grown, padded}
 use Rattle.arith.proofs.Lists.{grown-set}
 use Rattle.gp_model.specs.KernelParts.{distancesOf}
-use Rattle.gp_model.proofs.Table.{row-end}
+use Rattle.lanes.proofs.KernelRow.{row-end}
 use borrow.Author.Needs.{needs}
 use Rattle.gp_model.proofs.kernels.distances.Statement.{statement}
 use Rattle.gp_model.proofs.kernels.distances.Tie as tie

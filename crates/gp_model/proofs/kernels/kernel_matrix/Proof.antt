@@ -6,7 +6,7 @@ use lib.Ieee.{ofBits}
 use Rattle.arith.specs.Lists.{padded}
 use Rattle.factor.specs.Triangle.{rowsOf}
 use Rattle.gp_model.specs.Kernels.{covarianceOf}
-use Rattle.gp_model.proofs.Table.{row-end}
+use Rattle.lanes.proofs.KernelRow.{row-end}
 use borrow.Author.Needs.{needs}
 use Rattle.gp_model.proofs.kernels.kernel_matrix.Statement.{statement}
 use Rattle.gp_model.proofs.kernels.kernel_matrix.Tie as tie

@@ -8,7 +8,8 @@ use lib.Ieee.{binary64, sub}
 use Rattle.arith.specs.Sums.{sumOver}
 use Rattle.kernel.specs.Matern.{square}
 use Rattle.gp_model.specs.Statistics.{columnOf}
-use Rattle.gp_model.proofs.Table.{row-end, table-small}
+use Rattle.lanes.proofs.KernelRow.{row-end}
+use Rattle.gp_model.proofs.Table.{table-small}
 use borrow.Author.Needs.{needs}
 use Rattle.gp_model.proofs.statistics.column_squares.Statement.{statement}
 use Rattle.gp_model.proofs.statistics.column_squares.Tie as tie

@@ -6,7 +6,8 @@ use native.Mathlib.Omega.{arith}
 use lib.ListN.{length}
 use Rattle.arith.specs.Sums.{sumOver}
 use Rattle.gp_model.specs.Statistics.{columnOf}
-use Rattle.gp_model.proofs.Table.{row-end, table-small}
+use Rattle.lanes.proofs.KernelRow.{row-end}
+use Rattle.gp_model.proofs.Table.{table-small}
 use borrow.Author.Needs.{needs}
 use Rattle.gp_model.proofs.statistics.column_sum.Statement.{statement}
 use Rattle.gp_model.proofs.statistics.column_sum.Tie as tie
