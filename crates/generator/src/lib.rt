@@ -52,7 +52,12 @@ pub fn sample_random(g: &mut Generator, d: Distribution) -> RandomDraw
 }
 
 // The point of highest expected improvement, of n_candidates points drawn.
-pub fn optimize_acquisition(g: &mut Generator, m: Model, n_dims: usize, n_candidates: u64) -> Searched
+pub fn optimize_acquisition(
+    g: &mut Generator,
+    m: Model,
+    n_dims: usize,
+    n_candidates: u64,
+) -> Searched
     ensures { λ r. ⌜ (r ≡ optimizeAcquisitionOf m «n_dims» «n_candidates» (now (g .entry) .word)) × (now (g .exit) .word ≡ optimizeAcquisitionOf m «n_dims» «n_candidates» (now (g .entry) .word) .next) ⌝ }
 {
     let a = gp_model::optimize_acquisition(m, n_dims, n_candidates, g.word);
