@@ -1,5 +1,7 @@
-// One text from standard input, in pieces of any length, and its answers on standard output. What a call of the system reads or writes no
-// contract can say: all that is judged and written comes from `propose_text`, and these functions are tested.
+// One text from standard input, in pieces of any length, and on standard output its answers, or the points scored for its new trials (`scores`).
+// What a call of the system reads or writes no contract can say: all that is judged comes from `propose_text`, and these functions are tested.
+mod scores;
+
 ghost use Prim.Native.Nat.{_+_, _≤_};
 ghost use lib.ListN.{length};
 use propose_text::Reader;
@@ -33,7 +35,7 @@ fn is_ended(stage: Stage) -> bool {
 }
 
 // Writes these bytes; a failure is told. Whether they are written.
-fn put(bytes: &[u8]) -> bool {
+pub(crate) fn put(bytes: &[u8]) -> bool {
     if io::write_all(1, bytes) {
         return true;
     }
@@ -49,19 +51,20 @@ fn put_first(bytes: [u8; 68], len: usize) -> bool {
     put(&bytes[0..len])
 }
 
-// Writes the bytes of a step. Whether to read on: not after a failure, nor where the run has ended.
-fn told(t: Step) -> bool {
-    let bytes = t.bytes;
-    if !put_first(bytes, t.len) {
-        return false;
-    }
+// Writes the bytes of a step, or its points; a step that ends the run has its bytes. Whether to read on: not after a failure, nor where the run has ended.
+fn told(points: bool, before: Reader, t: Step, history: &[u64]) -> bool {
     let reader = t.reader;
     let stage = reader.stage;
-    !is_ended(stage)
+    let ended = is_ended(stage);
+    if points && !ended {
+        return scores::put_step(before, t, history);
+    }
+    let bytes = t.bytes;
+    put_first(bytes, t.len) && !ended
 }
 
 // Every whole line of the first `end` bytes.
-fn lines(reader: Reader, buf: &[u8], end: usize, history: &mut [u64; 8192]) -> Done
+fn lines(points: bool, reader: Reader, buf: &[u8], end: usize, history: &mut [u64; 8192]) -> Done
     requires { ⌜ end ≤ length (now buf) ⌝ }
     ensures { λ r. ⌜ r .used ≤ end ⌝ }
 {
@@ -76,10 +79,11 @@ fn lines(reader: Reader, buf: &[u8], end: usize, history: &mut [u64; 8192]) -> D
                 more: true,
             };
         }
-        let t = propose_text::read_line(now, &buf[used..e], history);
+        let before = now;
+        let t = propose_text::read_line(before, &buf[used..e], history);
         now = t.reader;
         used = e + 1;
-        if !told(t) {
+        if !told(points, before, t, history) {
             return Done {
                 reader: now,
                 used,
@@ -135,11 +139,18 @@ fn fill(buf: &mut [u8]) -> Filled
 }
 
 // What the bytes up to `full` come to, n of them new. A line that is longer than any table has ends the run.
-fn taken(reader: Reader, buf: &mut [u8], full: usize, left: u64, history: &mut [u64; 8192]) -> Held
+fn taken(
+    points: bool,
+    reader: Reader,
+    buf: &mut [u8],
+    full: usize,
+    left: u64,
+    history: &mut [u64; 8192],
+) -> Held
     requires { ⌜ full ≤ length (now buf) ⌝ }
     ensures { λ r. ⌜ (r .have ≤ length (now (buf .entry))) × (r .left ≤ left) ⌝ }
 {
-    let done = lines(reader, buf, full, history);
+    let done = lines(points, reader, buf, full, history);
     let used = done.used;
     let after = done.reader;
     let have = full - used;
@@ -152,7 +163,8 @@ fn taken(reader: Reader, buf: &mut [u8], full: usize, left: u64, history: &mut [
         };
     }
     if have > propose_text::LONGEST {
-        told(propose_text::read_line(after, &buf[used..full], history));
+        let t = propose_text::read_line(after, &buf[used..full], history);
+        told(points, after, t, history);
         return Held {
             reader: after,
             have: 0,
@@ -170,7 +182,14 @@ fn taken(reader: Reader, buf: &mut [u8], full: usize, left: u64, history: &mut [
 }
 
 // One read, with the lines that it completes, or the end of the text.
-fn turn(reader: Reader, buf: &mut [u8], have: usize, left: u64, history: &mut [u64; 8192]) -> Held
+fn turn(
+    points: bool,
+    reader: Reader,
+    buf: &mut [u8],
+    have: usize,
+    left: u64,
+    history: &mut [u64; 8192],
+) -> Held
     requires { ⌜ have ≤ length (now buf) ⌝ }
     ensures { λ r. ⌜ (r .have ≤ length (now (buf .entry))) × (r .left ≤ left) ⌝ }
 {
@@ -178,10 +197,15 @@ fn turn(reader: Reader, buf: &mut [u8], have: usize, left: u64, history: &mut [u
     let f = fill(&mut buf[have..end]);
     let n = f.n;
     if n > 0 {
-        return taken(reader, buf, have + n, left - n as u64, history);
+        return taken(points, reader, buf, have + n, left - n as u64, history);
     }
     if !f.failed {
-        told(propose_text::finish(reader, &buf[0..have]));
+        told(
+            points,
+            reader,
+            propose_text::finish(reader, &buf[0..have]),
+            history,
+        );
     }
     Held {
         reader,
@@ -193,7 +217,7 @@ fn turn(reader: Reader, buf: &mut [u8], have: usize, left: u64, history: &mut [u
 
 // Reads the text to its end, or to the end of its run. How many of its bytes are not read.
 // A proved loop has to end, and nothing says that the input does: the turns are counted down from a number that no run uses up.
-fn all(buf: &mut [u8], limit: u64, history: &mut [u64; 8192]) -> u64
+fn all(points: bool, buf: &mut [u8], limit: u64, history: &mut [u64; 8192]) -> u64
     ensures { λ r. ⌜ r ≤ limit ⌝ }
 {
     let mut h = Held {
@@ -205,13 +229,22 @@ fn all(buf: &mut [u8], limit: u64, history: &mut [u64; 8192]) -> u64
     let mut turns = u64::MAX;
     while turns > 0 {
         let reader = h.reader;
-        h = turn(reader, buf, h.have, h.left, history);
+        h = turn(points, reader, buf, h.have, h.left, history);
         if !h.more {
             return h.left;
         }
         turns -= 1;
     }
     h.left
+}
+
+// Runs a text after its names line.
+fn run(points: bool, limit: u64) -> u64
+    ensures { λ r. ⌜ r ≤ limit ⌝ }
+{
+    let mut buf = io::large_buffer();
+    let mut history = [0u64; 8192];
+    all(points, &mut buf, limit, &mut history)
 }
 
 // Runs the text that the next `limit` bytes of standard input are, or those up to its end. How many of them are not read.
@@ -222,9 +255,14 @@ pub fn run_text(limit: u64) -> u64
     if !put(&names) {
         return limit;
     }
-    let mut buf = io::large_buffer();
-    let mut history = [0u64; 8192];
-    all(&mut buf, limit, &mut history)
+    run(false, limit)
+}
+
+// Runs a whole text as `run_text` does, and writes the points of its new trials in place of the answers.
+pub fn run_points() {
+    if put(b"trial index improvement stored point\n") {
+        run(true, u64::MAX);
+    }
 }
 
 // Reads that many bytes into buf, again and again. How many there were not.

@@ -4,6 +4,7 @@ use arithmetic::Refusal;
 use history::{HEAD_WORDS, SLOT_WORDS};
 use leaf_lines::parse_words;
 use optimizer::sampler::gp::GpSampler;
+use records::DistributionWords;
 use run::{Settings, sample};
 
 const MALFORMED_TEXT: Refusal = Refusal(14);
@@ -22,25 +23,45 @@ pub fn history_names(slots: u64) -> String {
     ROW_NAMES.to_owned() + &SLOT_NAMES.repeat(slots as usize)
 }
 
+/// A call on a sampler, with the history that is lent to it.
+pub struct Call<'a> {
+    pub sampler: &'a GpSampler,
+    pub slots: u64,
+    pub history: &'a [u64],
+    pub trial: u64,
+    pub asked: &'a DistributionWords,
+}
+
 /// The whole output for a whole input.
 pub fn answer(text: &[u8]) -> Vec<u8> {
-    let mut output = format!("{ANSWER_NAMES}\n");
-    if let Err(Refusal(number)) = answer_lines(Lines { rest: text }, &mut output) {
-        add_line(&mut output, [0, 0, number, 0]);
+    output(text, ANSWER_NAMES, |call| vec![answer_call(call).to_vec()])
+}
+
+/// The whole output for a whole input: the names, and lines of words for each call.
+pub fn output(text: &[u8], names: &str, call_lines: fn(&Call) -> Vec<Vec<u64>>) -> Vec<u8> {
+    let mut output = format!("{names}\n");
+    if let Err(Refusal(number)) = answer_lines(Lines { rest: text }, call_lines, &mut output) {
+        add_line(&mut output, &[0, 0, number, 0]);
     }
     output.into_bytes()
 }
 
 /// The lines are judged in order; an error ends the run.
-fn answer_lines(mut lines: Lines, output: &mut String) -> Result<(), Refusal> {
+fn answer_lines(
+    mut lines: Lines,
+    call_lines: fn(&Call) -> Vec<Vec<u64>>,
+    output: &mut String,
+) -> Result<(), Refusal> {
     lines.read_names(SETTINGS_NAMES)?;
     let settings = Settings::of(&words(lines.read()?)?);
     let sampler = settings.sampler()?;
     lines.read_names(&history_names(settings.slots))?;
     let history = read_history(&mut lines, settings.slots)?;
     while !lines.are_over() {
-        let call = words(lines.read()?)?;
-        add_line(output, answer_call(&sampler, settings.slots, &history, &call));
+        let (trial, asked) = call_words(lines.read()?)?;
+        let (slots, history) = (settings.slots, &history[..]);
+        let call = Call { sampler: &sampler, slots, history, trial, asked: &asked };
+        call_lines(&call).iter().for_each(|words| add_line(output, words));
     }
     Ok(())
 }
@@ -63,12 +84,17 @@ fn read_history(lines: &mut Lines, slots: u64) -> Result<Vec<u64>, Refusal> {
 }
 
 /// Trial, kind, value and words drawn; for a refused call trial, 0, the number and 0.
-fn answer_call(sampler: &GpSampler, slots: u64, history: &[u64], call: &[u64; 7]) -> [u64; 4] {
-    let [trial, asked @ ..] = call;
-    match sample(sampler, slots, *trial, asked, history) {
-        Ok([_, kind, value, drawn]) => [*trial, kind, value, drawn],
-        Err(Refusal(number)) => [*trial, 0, number, 0],
+pub fn answer_call(call: &Call) -> [u64; 4] {
+    match sample(call.sampler, call.slots, call.trial, call.asked, call.history) {
+        Ok([_, kind, value, drawn]) => [call.trial, kind, value, drawn],
+        Err(Refusal(number)) => [call.trial, 0, number, 0],
     }
+}
+
+/// The trial and the distribution asked.
+fn call_words(line: &[u8]) -> Result<(u64, DistributionWords), Refusal> {
+    let [trial, asked @ ..] = words::<7>(line)?;
+    Ok((trial, asked))
 }
 
 /// A line of exactly N words.
@@ -76,8 +102,9 @@ fn words<const N: usize>(line: &[u8]) -> Result<[u64; N], Refusal> {
     parse_words(line).and_then(|words| words.try_into().ok()).ok_or(MALFORMED_TEXT)
 }
 
-fn add_line(output: &mut String, words: [u64; 4]) {
-    *output += &words.map(|word| format!("{word:016x}")).join(" ");
+fn add_line(output: &mut String, words: &[u64]) {
+    let fields: Vec<String> = words.iter().map(|word| format!("{word:016x}")).collect();
+    *output += &fields.join(" ");
     output.push('\n');
 }
 

@@ -7,10 +7,10 @@ use Rattle.propose_io.proofs.all.Statement.{statement}
 use Rattle.propose_io.proofs.all.Tie as tie
 
 abbrev Inv-loop : tie.InvT-loop
-Inv-loop buf₀ limit history₀ h₀ turns₀ buf history h turns = h .have ≤ length buf × h .left ≤ limit × length buf ≡ length buf₀
+Inv-loop points buf₀ limit history₀ h₀ turns₀ buf history h turns = h .have ≤ length buf × h .left ≤ limit × length buf ≡ length buf₀
 
 abbrev μ-loop : tie.MeasureT-loop
-μ-loop buf₀ limit history₀ h₀ turns₀ buf history h turns = turns
+μ-loop points buf₀ limit history₀ h₀ turns₀ buf history h turns = turns
 
 start-requires : tie.Need-start-requires Inv-loop μ-loop
 start-requires c κs = search needs

@@ -1,16 +1,14 @@
 -- `propose_io::lines` meets its contract. Assumes nothing.
 use Prim.Native.Nat.{_≤_, _-_}
-use mathlib.Core.Path.{_≡_}
-use lib.ListN.{length}
 use borrow.Author.Needs.{needs}
 use Rattle.propose_io.proofs.lines.Statement.{statement}
 use Rattle.propose_io.proofs.lines.Tie as tie
 
 abbrev Inv-loop : tie.InvT-loop
-Inv-loop buf end history₀ now₀ used₀ history now used = used ≤ end
+Inv-loop points buf end history₀ now₀ used₀ history now used = used ≤ end
 
 abbrev μ-loop : tie.MeasureT-loop
-μ-loop buf end history₀ now₀ used₀ history now used = end - used
+μ-loop points buf end history₀ now₀ used₀ history now used = end - used
 
 loop-holds : tie.Need-loop-holds Inv-loop μ-loop
 loop-holds c = search needs

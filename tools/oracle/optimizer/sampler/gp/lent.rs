@@ -134,4 +134,29 @@ impl GpSampler {
     pub fn words_drawn(&self) -> u64 {
         self.state.lock().rng.drawn()
     }
+
+    pub fn candidate_count(&self) -> usize {
+        self.state.lock().n_candidates
+    }
+
+    /// The model that a new trial gets with this history; none where its values are drawn.
+    pub fn model(&self, history: &[CompletedTrial]) -> Option<Model> {
+        let state = self.state.lock();
+        let is_asked = state.dimensions.iter().any(|dimension| dimension.is_continuous)
+            && history.len() >= state.n_startup_trials;
+        let (x_train, y_train) = super::build_training_data(history, &state.dimensions);
+        is_asked.then(|| fit_gp(&x_train, &y_train, state.noise_variance)).flatten()
+    }
+
+    /// Whether the values stored for the trial are this point's, choices left out.
+    pub fn stores(&self, trial: u64, point: &[f64]) -> bool {
+        let state = self.state.lock();
+        let stored = state.dimensions.iter().zip(&state.trial_progress[&trial].values);
+        let continuous = stored.filter(|(dimension, _)| dimension.is_continuous);
+        continuous.zip(point).all(|((dimension, value), &coordinate)| {
+            let (low, high) = dimension.bounds.expect("bounds of a continuous dimension");
+            let decoded = super::from_normalized(coordinate, low, high);
+            super::from_internal(decoded, &dimension.distribution) == *value
+        })
+    }
 }
