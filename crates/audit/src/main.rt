@@ -7,5 +7,5 @@ fn main() {
         );
         return;
     }
-    propose_io::run_points();
+    propose_io::run_points(u64::MAX);
 }

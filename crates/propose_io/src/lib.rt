@@ -258,11 +258,14 @@ pub fn run_text(limit: u64) -> u64
     run(false, limit)
 }
 
-// Runs a whole text as `run_text` does, and writes the points of its new trials in place of the answers.
-pub fn run_points() {
-    if put(b"trial index improvement stored point\n") {
-        run(true, u64::MAX);
+// Runs a text as `run_text` does, and writes the points of its new trials in place of the answers.
+pub fn run_points(limit: u64) -> u64
+    ensures { λ r. ⌜ r ≤ limit ⌝ }
+{
+    if !put(b"trial index improvement stored point\n") {
+        return limit;
     }
+    run(true, limit)
 }
 
 // Reads that many bytes into buf, again and again. How many there were not.
