@@ -6,6 +6,7 @@ use mathlib.Core.List.{List, [], _∷_, _++_}
 use lib.ListN.{take, drop}
 use Rattle.arith.specs.Lists.{every, grown}
 use Rattle.word_text.specs.Digits.{allDigits, ofDigits, lastDigits}
+use Rattle.propose_text.specs.declared.Event.{Event}
 use Rattle.propose_text.specs.declared.Stage.{Stage}
 use Rattle.propose_text.specs.Lines.{wordAt, isWords, wordsIn, answerLine}
 use Rattle.propose_text.specs.Names.{slotsNames, answerNames, sameBytes}
@@ -53,7 +54,7 @@ abbrev Texts : Type 0
 Texts =
     (writtenOf [] ≡ ended answerNames ++ answerLine 0 0 14 0)
     × (stepOf startOf (83 ∷ take 34 (drop 1 sample)) ≡ ends 14 startOf)
-    × (stepOf startOf (take 35 sample) ≡ awaits Stage.Settings startOf)
+    × (stepOf startOf (take 35 sample) ≡ awaits Stage.Settings Event.Names startOf)
 
 texts : Texts
 unfolding writtenOf readOf startOf stepOf finishOf sameBytes

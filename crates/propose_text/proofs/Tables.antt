@@ -14,6 +14,7 @@ use Rattle.sampler_state.specs.declared.Sampler.{Sampler}
 use Rattle.sampler.specs.Calls.{sampleOf}
 use Rattle.sampler.specs.Runs.{answersOf, endOf}
 use Rattle.sampler_state.specs.State.{makeOf, freshOf}
+use Rattle.propose_text.specs.declared.Event.{Event}
 use Rattle.propose_text.specs.declared.Stage.{Stage}
 use Rattle.propose_text.specs.Lines.{isWords, wordsIn, answerLine}
 use Rattle.propose_text.specs.Names.{settingsNames, rowNames, slotNames, slotsNames, historyNames, callNames, sameBytes}
@@ -35,8 +36,8 @@ last-line r line rest n p e =
     ∙ append-nil (answerLine 0 0 n 0)
 
 -- a line after which another is awaited
-pub next-line : (r next : Reading) (line rest : List ℕ) → plain line ≡ true → stepOf r line ≡ record { reading = next; written = [] } → readOf r [] (ended line ++ rest) ≡ readOf next [] rest
-next-line r next line rest p e = read-ended r line rest p ∙ ap (λ (t : Stepped). t .written ++ readOf (t .reading) [] rest) e
+pub next-line : (r next : Reading) (event : Event) (line rest : List ℕ) → plain line ≡ true → stepOf r line ≡ record { reading = next; event = event; written = [] } → readOf r [] (ended line ++ rest) ≡ readOf next [] rest
+next-line r next event line rest p e = read-ended r line rest p ∙ ap (λ (t : Stepped). t .written ++ readOf (t .reading) [] rest) e
 
 -- ---- names lines
 
@@ -66,16 +67,16 @@ calls-plain = refl
 
 pub read-settings-names : (s : Sampler) (h rest : List ℕ) → readOf (at Stage.SettingsNames s h) [] (ended settingsNames ++ rest) ≡ readOf (at Stage.Settings s h) [] rest
 unfolding stepOf
-read-settings-names s h rest = next-line _ _ settingsNames rest settings-plain (rw (same-self settingsNames))
+read-settings-names s h rest = next-line _ _ Event.Names settingsNames rest settings-plain (rw (same-self settingsNames))
 
 pub read-history-names : (s : Sampler) (h rest : List ℕ) → slotsOf s ≤ 20 → readOf (at Stage.HistoryNames s h) [] (ended (historyNames (slotsOf s)) ++ rest) ≡ readOf (at Stage.History s h) [] rest
 unfolding stepOf
 read-history-names s h rest few =
-    next-line _ _ (historyNames (slotsOf s)) rest (history-plain (slotsOf s)) (rw (le-leb (slotsOf s) 20 few, same-self (historyNames (slotsOf s))))
+    next-line _ _ Event.Names (historyNames (slotsOf s)) rest (history-plain (slotsOf s)) (rw (le-leb (slotsOf s) 20 few, same-self (historyNames (slotsOf s))))
 
 pub read-call-names : (s : Sampler) (h rest : List ℕ) → readOf (at Stage.History s h) [] (ended callNames ++ rest) ≡ readOf (at Stage.Calls s h) [] rest
 unfolding stepOf historyLine
-read-call-names s h rest = next-line _ _ callNames rest calls-plain (rw (same-self callNames))
+read-call-names s h rest = next-line _ _ Event.CallsBegin callNames rest calls-plain (rw (same-self callNames))
 
 -- ---- the settings
 
@@ -86,7 +87,7 @@ module _ (s : Sampler) (h ws rest : List ℕ) (w : Words 5 ws) where
 
   pub read-settings : settingsOk (settingsOf ws) ≡ true → readOf (at Stage.Settings s h) [] (ended (lineOf ws) ++ rest) ≡ readOf (at Stage.HistoryNames (freshOf (settingsOf ws)) h) [] rest
   unfolding makeOf
-  read-settings ok = next-line _ _ (lineOf ws) rest (line-plain ws) (settings-step ∙ rw ok)
+  read-settings ok = next-line _ _ Event.Settings (lineOf ws) rest (line-plain ws) (settings-step ∙ rw ok)
 
   pub read-refused : settingsOk (settingsOf ws) ≡ false → readOf (at Stage.Settings s h) [] (ended (lineOf ws) ++ rest) ≡ answerLine 0 0 1 0
   unfolding makeOf
@@ -94,7 +95,7 @@ module _ (s : Sampler) (h ws rest : List ℕ) (w : Words 5 ws) where
 
 -- ---- the history
 
-pub row-step : (s : Sampler) (h ws : List ℕ) → slotsOf s ≤ 20 → Words (rowWords (slotsOf s)) ws → length h + rowWords (slotsOf s) ≤ 8192 → stepOf (at Stage.History s h) (lineOf ws) ≡ record { reading = at Stage.History s (h ++ ws); written = [] }
+pub row-step : (s : Sampler) (h ws : List ℕ) → slotsOf s ≤ 20 → Words (rowWords (slotsOf s)) ws → length h + rowWords (slotsOf s) ≤ 8192 → stepOf (at Stage.History s h) (lineOf ws) ≡ record { reading = at Stage.History s (h ++ ws); event = Event.Row; written = [] }
 unfolding stepOf historyLine rowLine
 row-step s h ws few w room =
     let p = words-printed (rowWords (slotsOf s)) ws w in
@@ -114,7 +115,7 @@ read-rows s h (ws ∷ rows) rest few t room =
     let a = length-append ws (joined rows) in
     let b = length-append h ws in
     ap (readOf (at Stage.History s h) []) (append-assoc (ended (lineOf ws)) (linesOf rows) rest)
-    ∙ next-line _ _ (lineOf ws) (linesOf rows ++ rest) (line-plain ws) (row-step s h ws few (t .0) (omega arith))
+    ∙ next-line _ _ Event.Row (lineOf ws) (linesOf rows ++ rest) (line-plain ws) (row-step s h ws few (t .0) (omega arith))
     ∙ read-rows s (h ++ ws) rows rest few (t .1) (omega arith)
     ∙ ap (λ (l : List ℕ). readOf (at Stage.History s l) [] rest) (append-assoc h ws (joined rows))
 

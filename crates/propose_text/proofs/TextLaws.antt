@@ -13,6 +13,7 @@ use Rattle.settings.specs.Settings.{settingsOk}
 use Rattle.sampler_state.specs.declared.Sampler.{Sampler}
 use Rattle.sampler.specs.Runs.{answersOf, endOf}
 use Rattle.sampler_state.specs.State.{freshOf, noSampler}
+use Rattle.propose_text.specs.declared.Event.{Event}
 use Rattle.propose_text.specs.declared.Stage.{Stage}
 use Rattle.propose_text.specs.Laws.{NoCall, TextAnswers, LongLines}
 use Rattle.propose_text.specs.Lines.{isWords, wordsIn, answerLine}
@@ -129,7 +130,7 @@ module _ (s : Sampler) (h text line rest : List ℕ) (few : slotsOf s ≤ 20) (p
       let n = length-append h ws in
       let m = b .0 .count in
       let t : text ≡ ended (lineOf ws) ++ rest = q ∙ ap (λ (l : List ℕ). ended l ++ rest) (b .1) in
-      ap (readOf (at Stage.History s h) []) t ∙ next-line _ _ (lineOf ws) rest (line-plain ws) (row-step s h ws few (b .0) room)
+      ap (readOf (at Stage.History s h) []) t ∙ next-line _ _ Event.Row (lineOf ws) rest (line-plain ws) (row-step s h ws few (b .0) room)
       ∙ go-on ws (omega arith)
       (λ rows more u r e.
       let j = length-append ws (joined rows) in

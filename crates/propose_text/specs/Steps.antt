@@ -12,6 +12,7 @@ use Rattle.sampler.specs.declared.Sampled.{Sampled}
 use Rattle.sampler_state.specs.declared.Sampler.{Sampler}
 use Rattle.sampler.specs.Calls.{sampleOf}
 use Rattle.sampler_state.specs.State.{makeOf, noSampler}
+use Rattle.propose_text.specs.declared.Event.{Event}
 use Rattle.propose_text.specs.declared.Reader.{Reader}
 use Rattle.propose_text.specs.declared.Stage.{Stage}
 use Rattle.propose_text.specs.declared.Step.{Step}
@@ -26,9 +27,10 @@ pub record Reading : Type 0 where
   pub sampler : Sampler
   pub history : List ℕ
 
--- after a line: what is written for it
+-- after a line: what it was, and what is written for it
 pub record Stepped : Type 0 where
   pub reading : Reading
+  pub event : Event
   pub written : List ℕ
 
 -- a reader of the code with the array that holds the history
@@ -36,21 +38,21 @@ abbrev pub readingOf : Reader → List ℕ → Reading
 readingOf r h = record { stage = r .stage; sampler = r .sampler; history = take (r .count) h }
 
 abbrev pub steppedOf : Step → List ℕ → Stepped
-steppedOf t h = record { reading = readingOf (t .reader) h; written = take (t .len) (t .bytes) }
+steppedOf t h = record { reading = readingOf (t .reader) h; event = t .event; written = take (t .len) (t .bytes) }
 
 -- ---- ways to go on
 
 -- another line is awaited, and nothing is written
-abbrev pub awaits : Stage → Reading → Stepped
-awaits s r = record { reading = record { stage = s; sampler = r .sampler; history = r .history }; written = [] }
+abbrev pub awaits : Stage → Event → Reading → Stepped
+awaits s e r = record { reading = record { stage = s; sampler = r .sampler; history = r .history }; event = e; written = [] }
 
 -- "Numbers 1 and 14 print trial 0 and end the run."
 abbrev pub ends : ℕ → Reading → Stepped
-ends n r = record { reading = record { stage = Stage.Ended; sampler = r .sampler; history = r .history }; written = answerLine 0 0 n 0 }
+ends n r = record { reading = record { stage = Stage.Ended; sampler = r .sampler; history = r .history }; event = Event.Refused n; written = answerLine 0 0 n 0 }
 
 -- a names line
 abbrev pub named : Bool → Stage → Reading → Stepped
-named ok s r = cond ok (awaits s r) (ends 14 r)
+named ok s r = cond ok (awaits s Event.Names r) (ends 14 r)
 
 -- ---- the lines
 
@@ -59,7 +61,7 @@ settingsOf ws =
     record { «n_startup_trials» = getD ws 0 0; «n_candidates» = getD ws 1 0; «noise_variance» = ofBits binary64 (getD ws 2 0); seed = getD ws 3 0; slots = getD ws 4 0 }
 
 abbrev pub madeOf : Made → Reading → Stepped
-madeOf m r = cond (eqb (m .number) 0) (record { reading = record { stage = Stage.HistoryNames; sampler = m .sampler; history = r .history }; written = [] }) (ends (m .number) r)
+madeOf m r = cond (eqb (m .number) 0) (record { reading = record { stage = Stage.HistoryNames; sampler = m .sampler; history = r .history }; event = Event.Settings; written = [] }) (ends (m .number) r)
 
 -- "Settings (one line)": malformed text is 14, a setting out of range 1
 unfoldable pub settingsLine : Reading → List ℕ → Stepped
@@ -80,13 +82,13 @@ rowWords n = 3 + 8 * n
 unfoldable pub rowLine : Reading → List ℕ → Stepped
 rowLine r line =
     cond (leb (slotsOf (r .sampler)) 20 && leb (length (r .history) + rowWords (slotsOf (r .sampler))) 8192 && isWords (rowWords (slotsOf (r .sampler))) line)
-    (record { reading = record { stage = Stage.History; sampler = r .sampler; history = r .history ++ wordsIn (rowWords (slotsOf (r .sampler))) line }; written = [] })
+    (record { reading = record { stage = Stage.History; sampler = r .sampler; history = r .history ++ wordsIn (rowWords (slotsOf (r .sampler))) line }; event = Event.Row; written = [] })
     (ends 14 r)
 
 -- "After the history, a line of seven names starts the calls."
 unfoldable pub historyLine : Reading → List ℕ → Stepped
 unfolding rowLine
-historyLine r line = cond (sameBytes line callNames) (awaits Stage.Calls r) (rowLine r line)
+historyLine r line = cond (sameBytes line callNames) (awaits Stage.Calls Event.CallsBegin r) (rowLine r line)
 
 abbrev pub sampledOf : Reading → List ℕ → Sampled
 sampledOf r ws = sampleOf (r .sampler) (getD ws 1 0) (getD ws 2 0) (getD ws 3 0) (getD ws 4 0) (getD ws 5 0) (getD ws 6 0) (getD ws 0 0) (r .history)
@@ -94,7 +96,7 @@ sampledOf r ws = sampleOf (r .sampler) (getD ws 1 0) (getD ws 2 0) (getD ws 3 0)
 -- "A refused call prints its trial, 0, the number, 0."
 abbrev pub answeredOf : ℕ → Sampled → Reading → Stepped
 answeredOf trial a r =
-    record { reading = record { stage = Stage.Calls; sampler = a .sampler; history = r .history }; written = answerLine trial (kindOf (a .value)) (wordOf (a .value)) (a .drawn) }
+    record { reading = record { stage = Stage.Calls; sampler = a .sampler; history = r .history }; event = Event.Call; written = answerLine trial (kindOf (a .value)) (wordOf (a .value)) (a .drawn) }
 
 unfoldable pub callLine : Reading → List ℕ → Stepped
 callLine r line = cond (isWords 7 line) (answeredOf (getD (wordsIn 7 line) 0 0) (sampledOf r (wordsIn 7 line)) r) (ends 14 r)
@@ -105,7 +107,7 @@ lineAt Stage.Settings r line = settingsLine r line
 lineAt Stage.HistoryNames r line = named (historyNamed (r .sampler) line) Stage.History r
 lineAt Stage.History r line = historyLine r line
 lineAt Stage.Calls r line = callLine r line
-lineAt Stage.Ended r line = awaits Stage.Ended r
+lineAt Stage.Ended r line = awaits Stage.Ended Event.Nothing r
 
 -- ---- what a reader does
 
@@ -123,8 +125,8 @@ finishAt Stage.SettingsNames r rest = ends 14 r
 finishAt Stage.Settings r rest = ends 14 r
 finishAt Stage.HistoryNames r rest = ends 14 r
 finishAt Stage.History r rest = ends 14 r
-finishAt Stage.Calls r rest = cond (eqb (length rest) 0) (awaits Stage.Ended r) (ends 14 r)
-finishAt Stage.Ended r rest = awaits Stage.Ended r
+finishAt Stage.Calls r rest = cond (eqb (length rest) 0) (awaits Stage.Ended Event.Nothing r) (ends 14 r)
+finishAt Stage.Ended r rest = awaits Stage.Ended Event.Nothing r
 
 unfoldable pub finishOf : Reading → List ℕ → Stepped
 finishOf r rest = finishAt (r .stage) r rest

@@ -31,9 +31,21 @@ pub struct Reader {
     pub count: usize,
 }
 
-// After a line: the reader, and the bytes to write for it, the first `len`.
+// What a line was: names, the settings, a row, the names that begin the calls, a call, a refusal that ends the run, or nothing more of a text.
+pub enum Event {
+    Names,
+    Settings,
+    Row,
+    CallsBegin,
+    Call,
+    Refused(u64),
+    Nothing,
+}
+
+// After a line: the reader, what the line was, and the bytes to write for it, the first `len`.
 pub struct Step {
     pub reader: Reader,
+    pub event: Event,
     pub len: usize,
     pub bytes: [u8; 68],
 }

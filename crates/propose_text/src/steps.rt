@@ -5,6 +5,7 @@ ghost use Prim.Native.Nat.{ℕ, min};
 ghost use lib.ListN.{length, take};
 ghost use Rattle.propose_text.specs.Steps.{readingOf, steppedOf, awaits, ends, named, settingsLine, rowLine, historyLine, callLine, historyNamed, answeredOf, startOf, stepOf, finishAt, finishOf};
 ghost use Rattle.propose_text.specs.declared.Stage.{Stage};
+use crate::Event;
 use crate::Reader;
 use crate::Stage;
 use crate::Step;
@@ -17,8 +18,8 @@ use sampler_state::Sampler;
 use settings::Settings;
 
 // Another line is awaited, and nothing is written.
-fn awaiting(stage: Stage, sampler: Sampler, count: usize) -> Step
-    ensures { λ t. ⌜ ((h : List ℕ) → steppedOf t h ≡ awaits stage (readingOf (record { stage = stage; sampler = sampler; count = count }) h)) ⌝ }
+fn awaiting(stage: Stage, event: Event, sampler: Sampler, count: usize) -> Step
+    ensures { λ t. ⌜ ((h : List ℕ) → steppedOf t h ≡ awaits stage event (readingOf (record { stage = stage; sampler = sampler; count = count }) h)) ⌝ }
 {
     Step {
         reader: Reader {
@@ -26,6 +27,7 @@ fn awaiting(stage: Stage, sampler: Sampler, count: usize) -> Step
             sampler,
             count,
         },
+        event,
         len: 0,
         bytes: [0; 68],
     }
@@ -41,6 +43,7 @@ fn ending(number: u64, sampler: Sampler, count: usize) -> Step
             sampler,
             count,
         },
+        event: Event::Refused(number),
         len: 68,
         bytes: answers::answer_line(0, 0, number, 0),
     }
@@ -52,7 +55,7 @@ fn after_names(ok: bool, stage: Stage, r: Reader) -> Step
 {
     let sampler = r.sampler;
     if ok {
-        return awaiting(stage, sampler, r.count);
+        return awaiting(stage, Event::Names, sampler, r.count);
     }
     ending(14, sampler, r.count)
 }
@@ -77,7 +80,7 @@ fn settings_line(r: Reader, line: &[u8]) -> Step
         return ending(made.number, sampler, r.count);
     }
     let fresh = made.sampler;
-    awaiting(Stage::HistoryNames, fresh, r.count)
+    awaiting(Stage::HistoryNames, Event::Settings, fresh, r.count)
 }
 
 // Whether a line has the history's names for this sampler.
@@ -114,7 +117,7 @@ fn row_line(r: Reader, line: &[u8], history: &mut [u64]) -> Step
     if !lines::read_words(line, k, history, at) {
         return ending(14, sampler, at);
     }
-    awaiting(Stage::History, sampler, at + k)
+    awaiting(Stage::History, Event::Row, sampler, at + k)
 }
 
 // A row, or the names of the calls.
@@ -124,7 +127,7 @@ fn history_line(r: Reader, line: &[u8], history: &mut [u64]) -> Step
 {
     if names::is_calls(line) {
         let sampler = r.sampler;
-        return awaiting(Stage::Calls, sampler, r.count);
+        return awaiting(Stage::Calls, Event::CallsBegin, sampler, r.count);
     }
     row_line(r, line, history)
 }
@@ -141,6 +144,7 @@ fn answered(trial: u64, a: Sampled, count: usize) -> Step
             sampler,
             count,
         },
+        event: Event::Call,
         len: 68,
         bytes: answers::answer_line(
             trial,
@@ -207,7 +211,7 @@ pub fn read_line(r: Reader, line: &[u8], history: &mut [u64; 8192]) -> Step
         Stage::HistoryNames => after_names(has_history_names(sampler, line), Stage::History, r),
         Stage::History => history_line(r, line, history),
         Stage::Calls => call_line(r, line, history),
-        Stage::Ended => awaiting(Stage::Ended, sampler, r.count),
+        Stage::Ended => awaiting(Stage::Ended, Event::Nothing, sampler, r.count),
     }
 }
 
@@ -217,7 +221,7 @@ fn after_calls(r: Reader, rest: &[u8]) -> Step
 {
     let sampler = r.sampler;
     if rest.len() == 0 {
-        return awaiting(Stage::Ended, sampler, r.count);
+        return awaiting(Stage::Ended, Event::Nothing, sampler, r.count);
     }
     ending(14, sampler, r.count)
 }
@@ -234,6 +238,6 @@ pub fn finish(r: Reader, rest: &[u8]) -> Step
         Stage::HistoryNames => ending(14, sampler, r.count),
         Stage::History => ending(14, sampler, r.count),
         Stage::Calls => after_calls(r, rest),
-        Stage::Ended => awaiting(Stage::Ended, sampler, r.count),
+        Stage::Ended => awaiting(Stage::Ended, Event::Nothing, sampler, r.count),
     }
 }
