@@ -1,1 +1,2 @@
 mod Draw
+mod Params
