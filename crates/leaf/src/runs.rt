@@ -6,7 +6,7 @@ ghost use Rattle.leaf.specs.Counts.{ResultsFit};
 use crate::reply::Reply;
 use crate::reply::Results;
 use distribution::ParamValue;
-use sampler::Sampled;
+use sampler_laws::Sampled;
 use sampler_state::Sampler;
 use settings::Settings;
 

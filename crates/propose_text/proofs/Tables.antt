@@ -11,8 +11,8 @@ use Rattle.distribution.specs.Value.{kindOf, wordOf}
 use Rattle.settings.specs.declared.Settings.{Settings}
 use Rattle.settings.specs.Settings.{settingsOk}
 use Rattle.sampler_state.specs.declared.Sampler.{Sampler}
-use Rattle.sampler.specs.Calls.{sampleOf}
-use Rattle.sampler.specs.Runs.{answersOf, endOf}
+use Rattle.sampler_laws.specs.Calls.{sampleOf}
+use Rattle.sampler_laws.specs.Runs.{answersOf, endOf}
 use Rattle.sampler_state.specs.State.{makeOf, freshOf}
 use Rattle.propose_text.specs.declared.Event.{Event}
 use Rattle.propose_text.specs.declared.Stage.{Stage}

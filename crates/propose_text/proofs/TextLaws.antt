@@ -11,7 +11,7 @@ use lib.Ieee.{binary64, ofBits, le}
 use Rattle.settings.specs.declared.Settings.{Settings}
 use Rattle.settings.specs.Settings.{settingsOk}
 use Rattle.sampler_state.specs.declared.Sampler.{Sampler}
-use Rattle.sampler.specs.Runs.{answersOf, endOf}
+use Rattle.sampler_laws.specs.Runs.{answersOf, endOf}
 use Rattle.sampler_state.specs.State.{freshOf, noSampler}
 use Rattle.propose_text.specs.declared.Event.{Event}
 use Rattle.propose_text.specs.declared.Stage.{Stage}

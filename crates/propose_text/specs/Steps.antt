@@ -8,9 +8,9 @@ use lib.Ieee.{binary64, ofBits}
 use Rattle.distribution.specs.Value.{kindOf, wordOf}
 use Rattle.settings.specs.declared.Settings.{Settings}
 use Rattle.sampler_state.specs.declared.Made.{Made}
-use Rattle.sampler.specs.declared.Sampled.{Sampled}
+use Rattle.sampler_laws.specs.declared.Sampled.{Sampled}
 use Rattle.sampler_state.specs.declared.Sampler.{Sampler}
-use Rattle.sampler.specs.Calls.{sampleOf}
+use Rattle.sampler_laws.specs.Calls.{sampleOf}
 use Rattle.sampler_state.specs.State.{makeOf, noSampler}
 use Rattle.propose_text.specs.declared.Event.{Event}
 use Rattle.propose_text.specs.declared.Reader.{Reader}

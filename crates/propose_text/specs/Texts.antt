@@ -9,7 +9,7 @@ use Rattle.word_text.specs.Digits.{digitsOf}
 use Rattle.distribution.specs.declared.ParamValue.{ParamValue}
 use Rattle.distribution.specs.Value.{kindOf, wordOf}
 use Rattle.settings.specs.Settings.{settingsOk}
-use Rattle.sampler.specs.Runs.{Asked, Call, asks, answersOf}
+use Rattle.sampler_laws.specs.Runs.{Asked, Call, asks, answersOf}
 use Rattle.sampler_state.specs.State.{freshOf}
 use Rattle.propose_text.specs.Lines.{answerLine}
 use Rattle.propose_text.specs.Names.{settingsNames, historyNames, callNames, answerNames}

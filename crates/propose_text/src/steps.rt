@@ -13,7 +13,7 @@ use crate::answers;
 use crate::lines;
 use crate::names;
 use distribution::ParamValue;
-use sampler::Sampled;
+use sampler_laws::Sampled;
 use sampler_state::Sampler;
 use settings::Settings;
 

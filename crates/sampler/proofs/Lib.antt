@@ -1,14 +1,1 @@
-pub mod Asked
-pub mod Best
-mod Cases
-pub mod Changes
-pub mod EqualRuns
-pub mod Kept
-pub mod Nothing
-pub mod Parts
-pub mod PlaceCounts
-pub mod SameAnswers
 mod Served
-pub mod WellFormed
-pub mod WordCounts
-pub mod Words

@@ -6,7 +6,7 @@ use mathlib.Core.List.{List, []}
 use lib.Dec.{eqb}
 use Rattle.distribution.specs.declared.Distribution.{Distribution}
 use Rattle.sampler_state.specs.declared.Sampler.{Sampler}
-use Rattle.sampler.specs.Calls.{activated, unlessRefused, discoverOf, activeOf, servedOf}
+use Rattle.sampler_laws.specs.Calls.{activated, unlessRefused, discoverOf, activeOf, servedOf}
 
 module _ (s : Sampler) (d : Distribution) (trial : ℕ) (h : List ℕ) where
   pub when-active : s .active ≡ true → servedOf s d trial h ≡ activeOf s d trial h

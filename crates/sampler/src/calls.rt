@@ -2,13 +2,13 @@
 ghost use mathlib.Core.Path.{_≡_};
 ghost use Prim.Native.Nat.{_≤_};
 ghost use Rattle.distribution.specs.declared.Read.{Read};
-ghost use Rattle.sampler.specs.Calls.{askedOf, sampleOf, closeOf};
-use crate::Sampled;
+ghost use Rattle.sampler_laws.specs.Calls.{askedOf, sampleOf, closeOf};
 use crate::phases;
 use crate::states;
 use distribution::Distribution;
 use distribution::ParamValue;
 use distribution::Read;
+use sampler_laws::Sampled;
 use sampler_state::Sampler;
 
 // A well-formed distribution asked: the history's number, or an answer.

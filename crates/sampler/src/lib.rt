@@ -1,19 +1,8 @@
-// The two calls of a sampler, and what is promised of every run of them.
+// The two calls of a sampler.
 pub mod calls;
-pub mod laws;
 pub mod phases;
 pub mod places;
 pub mod states;
 
 pub use calls::close;
 pub use calls::sample;
-use distribution::ParamValue;
-use sampler_state::Sampler;
-
-// What a call answers: number is 0, or the refusal's with its number as the value, no word drawn and the sampler as it was.
-pub struct Sampled {
-    pub number: u64,
-    pub value: ParamValue,
-    pub drawn: u64,
-    pub sampler: Sampler,
-}

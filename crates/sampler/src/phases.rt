@@ -3,12 +3,12 @@ ghost use mathlib.Core.Path.{_≡_};
 ghost use mathlib.Core.Bool.{_||_};
 ghost use Prim.Native.Nat.{_≤_, _<_};
 ghost use lib.Dec.{eqb};
-ghost use Rattle.sampler.specs.Calls.{discoverOf, nextOf, storedOf, newTrialOf, activeOf, unlessRefused, servedOf};
-use crate::Sampled;
+ghost use Rattle.sampler_laws.specs.Calls.{discoverOf, nextOf, storedOf, newTrialOf, activeOf, unlessRefused, servedOf};
 use crate::places;
 use crate::states;
 use distribution::Distribution;
 use proposal::Proposal;
+use sampler_laws::Sampled;
 use sampler_state::Place;
 use sampler_state::Sampler;
 

@@ -1,11 +1,11 @@
 // A sampler with a field or two changed, and the answers made of it.
 ghost use mathlib.Core.Path.{_≡_};
 ghost use Prim.Native.Nat.{_<_};
-ghost use Rattle.sampler.specs.Calls.{refusedOf, withWord, withPlace, activated, withDimension, drawnOf};
-use crate::Sampled;
+ghost use Rattle.sampler_laws.specs.Calls.{refusedOf, withWord, withPlace, activated, withDimension, drawnOf};
 use common::RandomDraw;
 use distribution::Distribution;
 use distribution::ParamValue;
+use sampler_laws::Sampled;
 use sampler_state::Place;
 use sampler_state::Sampler;
 

@@ -2,7 +2,7 @@
 use mathlib.Core.Path.{_≡_, sym, _∙_}
 use mathlib.Core.Bool.{true}
 use borrow.Author.Tests.{lt-ltb, le-ltb, not-true, not-false}
-use Rattle.sampler.specs.Calls.{closeOf}
+use Rattle.sampler_laws.specs.Calls.{closeOf}
 use Rattle.sampler_state.specs.State.{samplerOk}
 use borrow.Author.Needs.{needs}
 use Rattle.sampler.proofs.calls.close.Statement.{statement}

@@ -4,7 +4,7 @@ use mathlib.Core.Path.{_≡_, sym, ap, _∙_}
 use mathlib.Core.Bool.{true}
 use borrow.Author.Tests.{not-true, not-false}
 use Rattle.arith.proofs.Tests.{taken}
-use Rattle.sampler.specs.Calls.{sampleOf}
+use Rattle.sampler_laws.specs.Calls.{sampleOf}
 use Rattle.sampler_state.specs.State.{samplerOk}
 use borrow.Author.Needs.{needs}
 use Rattle.sampler.proofs.calls.sample.Statement.{statement}

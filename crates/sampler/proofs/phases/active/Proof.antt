@@ -1,7 +1,7 @@
 -- `sampler::phases::active` meets its contract. Assumes nothing.
 use mathlib.Core.Path.{sym}
 use borrow.Author.Tests.{lt-ltb, le-ltb}
-use Rattle.sampler.specs.Calls.{activeOf}
+use Rattle.sampler_laws.specs.Calls.{activeOf}
 use borrow.Author.Needs.{needs}
 use Rattle.sampler.proofs.phases.active.Statement.{statement}
 use Rattle.sampler.proofs.phases.active.Tie as tie

@@ -1,6 +1,6 @@
 -- `sampler::phases::discover` meets its contract. Assumes nothing.
 use borrow.Author.Tests.{eq-eqb, ne-eqb}
-use Rattle.sampler.specs.Calls.{discoverOf}
+use Rattle.sampler_laws.specs.Calls.{discoverOf}
 use borrow.Author.Needs.{needs}
 use Rattle.sampler.proofs.phases.discover.Statement.{statement}
 use Rattle.sampler.proofs.phases.discover.Tie as tie

@@ -3,7 +3,7 @@ use Prim.Native.Nat.{_≤_, _<_}
 use native.Mathlib.Omega.{arith}
 use mathlib.Core.Path.{sym}
 use borrow.Author.Tests.{lt-ltb, le-ltb}
-use Rattle.sampler.specs.Calls.{newTrialOf}
+use Rattle.sampler_laws.specs.Calls.{newTrialOf}
 use borrow.Author.Needs.{needs}
 use Rattle.sampler.proofs.phases.new_trial.Statement.{statement}
 use Rattle.sampler.proofs.phases.new_trial.Tie as tie

@@ -1,7 +1,7 @@
 -- `sampler::phases::next` meets its contract. Assumes nothing.
 use mathlib.Core.Path.{sym}
 use borrow.Author.Tests.{lt-ltb, le-ltb}
-use Rattle.sampler.specs.Calls.{nextOf}
+use Rattle.sampler_laws.specs.Calls.{nextOf}
 use borrow.Author.Needs.{needs}
 use Rattle.sampler.proofs.phases.next.Statement.{statement}
 use Rattle.sampler.proofs.phases.next.Tie as tie

@@ -2,7 +2,7 @@
 use mathlib.Core.Path.{_≡_, sym, ap, _∙_}
 use mathlib.Core.List.{[]}
 use Rattle.sampler_state.specs.declared.Sampler.{Sampler}
-use Rattle.sampler.specs.Calls.{activated, activeOf, unlessRefused}
+use Rattle.sampler_laws.specs.Calls.{activated, activeOf, unlessRefused}
 use Rattle.sampler.proofs.Served.{when-active, when-discovering, when-ending}
 use borrow.Author.Needs.{needs}
 use Rattle.sampler.proofs.phases.served.Statement.{statement}

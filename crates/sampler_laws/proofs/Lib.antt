@@ -1,0 +1,13 @@
+pub mod Asked
+pub mod Best
+mod Cases
+pub mod Changes
+pub mod EqualRuns
+pub mod Kept
+pub mod Nothing
+pub mod Parts
+pub mod PlaceCounts
+pub mod SameAnswers
+pub mod WellFormed
+pub mod WordCounts
+pub mod Words
