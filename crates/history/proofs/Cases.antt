@@ -1,4 +1,4 @@
--- The mapping and the training data at small histories, computed. Assumes nothing.
+-- The training data at small histories, computed. Assumes nothing.
 use Prim.Native.Nat.{ℕ, _*_}
 use mathlib.Core.Path.{_≡_, refl}
 use mathlib.Core.Bool.{false}
@@ -6,7 +6,7 @@ use mathlib.Core.List.{List, [], _∷_, _++_}
 use lib.ListN.{take}
 use lib.IntN.{pos}
 use lib.Ieee.{Float, binary64, ofBits, ofInt, toBits, neg, le, lt, eq, sub, div, round}
-use Rattle.arith.specs.Lists.{every, grown, filled, placeOf, placesOf}
+use Rattle.arith.specs.Lists.{every, grown, placeOf, placesOf}
 use Rattle.encoding.specs.Bounds.{endsOf, boundsOf}
 use Rattle.encoding.specs.Encode.{encodedOf, toInternalOf}
 use Rattle.distribution.specs.declared.Distribution.{Distribution}
@@ -17,30 +17,14 @@ use Rattle.distribution.specs.Taken.{takenOf, valueOf, floatTaken, intTaken}
 use Rattle.distribution_words.specs.Words.{readOf, checkedOf, floatRead, intRead, categoricalRead}
 use Rattle.dimensions.specs.declared.DimensionInfo.{DimensionInfo}
 use Rattle.dimensions.specs.Dimensions.{dimensionOf, dimensionOk, dimensionsOk, columnsOf}
-use Rattle.history.specs.Mapping.{none, insertById, entriesOf, firstEntry, consumedOf, matchesOf, mappedOf, numberOf, mappingOf}
+use Rattle.param_mapping.specs.Mapping.{insertById, entriesOf, firstEntry, consumedOf, matchesOf, mappedOf, numberOf}
 use Rattle.history_rows.specs.Rows.{wholeRows, rowCount, recentCount, recentOf}
 use Rattle.history_rows.specs.Tests.{rowOk, slotsOk, idsOnce, rowsAgreeing, recentTests, refusalOf}
 use Rattle.slots.specs.Slot.{slotRead, slotOk, agreeing}
 use Rattle.history_rows.specs.Slots.{slotWith}
 use Rattle.history.specs.Training.{coversOf, trainsOf, entryOf, columnOf, keptOf, xOf, yOf, recentTraining, trainingOf}
 use Rattle.history_rows.proofs.Samples.{row}
-use Rattle.history.proofs.Samples.{int, choices, dims, some, first, second, third}
-
-abbrev Mappings : Type 0
-Mappings =
-    -- by id, each entry once, the choice too
-    (mappingOf 3 dims 3 (first ++ second) ≡ record { number = 0; ids = filled none 20 (some 4 ∷ some 1 ∷ some 9 ∷ []) })
-    -- a third int of that range finds none, nor does one of another range
-    × (mappingOf 3 (dimensionOf (int 4) ∷ dimensionOf (int 4) ∷ dimensionOf (int 4) ∷ dimensionOf (int 8) ∷ []) 4 first ≡ record { number = 0; ids = filled none 20 (some 4 ∷ some 9 ∷ none ∷ none ∷ []) })
-    -- without a row nothing is found
-    × (mappingOf 3 dims 3 [] ≡ record { number = 0; ids = filled none 20 [] })
-    -- bounds that are not the distribution's, and a history that is refused
-    × (mappingOf 3 (record { distribution = int 4; lo = ofBits binary64 0; hi = ofBits binary64 0 } ∷ []) 1 first .number ≡ 11)
-    × (mappingOf 3 dims 3 (7 ∷ first) .number ≡ 3)
-
-mappings : Mappings
-unfolding mappingOf numberOf mappedOf entriesOf insertById firstEntry consumedOf matchesOf dimensionOk dimensionsOk grown boundsOf endsOf refusalOf recentTests wholeRows rowCount recentCount recentOf rowOk slotRead slotOk agreeing slotsOk idsOnce rowsAgreeing every equalOf intEqual floatEqual shapeOf intShape intStep categoricalShape floatStep takenOf valueOf floatTaken intTaken readOf checkedOf floatRead intRead categoricalRead ofBits ofInt toBits neg le lt eq
-mappings = (refl, refl, refl, refl, refl)
+use Rattle.param_mapping.proofs.Samples.{int, choices, dims, first, second, third}
 
 abbrev word : ℕ → Float
 word w = ofBits binary64 w

@@ -7,14 +7,14 @@ use lib.ListN.{length, getD}
 use lib.Ieee.{Float, binary64, ofBits}
 use Rattle.arith.proofs.Lists.{grown-length, padded-length, places-length}
 use Rattle.dimensions.specs.declared.DimensionInfo.{DimensionInfo}
-use Rattle.history.specs.declared.Mapped.{Mapped}
+use Rattle.param_mapping.specs.declared.Mapped.{Mapped}
 use Rattle.history.specs.declared.Training.{Training}
 use Rattle.dimensions.specs.Dimensions.{columnsOf}
-use Rattle.history.specs.Mapping.{mappedOf, numberOf}
+use Rattle.param_mapping.specs.Mapping.{mappedOf, numberOf}
 use Rattle.history_rows.specs.Rows.{rowCount, recentOf, rowAt, objectiveOf}
 use Rattle.history.specs.Training.{trainsOf, columnOf, keptOf, xOf, yOf, recentTraining, trainingOf}
 use Rattle.history.proofs.FromArray.{training-is}
-use Rattle.history.proofs.Opened.{opened}
+use Rattle.param_mapping.proofs.Opened.{opened}
 use Rattle.history.proofs.PlaceList.{columns-few}
 use Rattle.history_rows.proofs.Recent.{recent-few}
 

@@ -10,15 +10,15 @@ use lib.Ieee.{Float}
 use Rattle.arith.specs.Lists.{every, filled, padded, placesOf}
 use Rattle.arith.proofs.Lists.{every-same, places-same, places-at, list-same, filled-at}
 use Rattle.dimensions.specs.declared.DimensionInfo.{DimensionInfo}
-use Rattle.history.specs.declared.Mapped.{Mapped}
+use Rattle.param_mapping.specs.declared.Mapped.{Mapped}
 use Rattle.history.specs.declared.Training.{Training}
 use Rattle.dimensions.specs.Dimensions.{dimensionAt, continuousOf, columnsOf}
-use Rattle.history.specs.Mapping.{none, mappedOf, numberOf}
+use Rattle.param_mapping.specs.Mapping.{none, mappedOf, numberOf}
 use Rattle.history_rows.specs.Rows.{rowCount, rowAt, slotAt, recentOf}
 use Rattle.history_rows.specs.Slots.{slotWith}
 use Rattle.history.specs.Training.{coversOf, trainsOf, entryOf, columnOf, keptOf, xOf, yOf, builtOf, recentTraining, refusedOf, trainingOf}
 use Rattle.history.proofs.KeptRows.{cell}
-use Rattle.history.proofs.MappedList.{mapped-length}
+use Rattle.param_mapping.proofs.MappedList.{mapped-length}
 
 -- a column is one of the dimensions
 pub column-below : (dims : List DimensionInfo) (k c : ℕ) → c < length (columnsOf dims k) → getD (columnsOf dims k) c 0 < k

@@ -10,10 +10,10 @@ use lib.ListN.{length, getD}
 use lib.Ieee.Fits.{and-r}
 use Rattle.arith.specs.Lists.{placesOf}
 use Rattle.arith.proofs.Lists.{every-each, places-at}
-use Rattle.history.specs.declared.Mapped.{Mapped}
+use Rattle.param_mapping.specs.declared.Mapped.{Mapped}
 use Rattle.history.specs.Cells.{Cells}
 use Rattle.history_rows.specs.Rows.{widthOf, rowCount, rowAt}
-use Rattle.history.specs.Mapping.{none}
+use Rattle.param_mapping.specs.Mapping.{none}
 use Rattle.history_rows.specs.Slots.{slotWith}
 use Rattle.history.specs.Training.{coversOf, trainsOf, keptOf}
 use Rattle.history_rows.proofs.Recent.{row-inside}

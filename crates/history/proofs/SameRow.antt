@@ -13,18 +13,18 @@ use Rattle.arith.proofs.Lists.{every-same}
 use Rattle.arith.proofs.Tests.{taken, iff}
 use Rattle.distribution.proofs.Facts.{parts}
 use Rattle.dimensions.specs.declared.DimensionInfo.{DimensionInfo}
-use Rattle.history.specs.declared.Mapped.{Mapped}
+use Rattle.param_mapping.specs.declared.Mapped.{Mapped}
 use Rattle.history_rows.specs.Rows.{slotAt, stateOf}
 use Rattle.slots.specs.Slot.{idOf}
 use Rattle.slots.specs.Slot.{present, sameId, slotOk, agreeing}
 use Rattle.history_rows.specs.Tests.{rowOk, slotsOk, idsOnce, rowsAgreeing}
-use Rattle.history.specs.Mapping.{insertById, entriesOf, none, mappedOf}
+use Rattle.param_mapping.specs.Mapping.{insertById, entriesOf, none, mappedOf}
 use Rattle.slots.specs.Slot.{hasId}
 use Rattle.history_rows.specs.Slots.{slotWith}
 use Rattle.history.specs.Training.{coversOf, trainsOf, columnOf}
 use Rattle.history.specs.RowsAgree.{RowsAgree}
 use Rattle.history.proofs.Perm.{backOf, pairs, every-pairs, back-order, every-order, pairs-order, pairs-perm, fold-perm, place-test, pick, pick-perm, pick-place}
-use Rattle.history.proofs.Sorted.{insert-swap}
+use Rattle.param_mapping.proofs.Sorted.{insert-swap}
 
 -- a row's slots, the last one first
 abbrev slots : ℕ → List ℕ → List (List ℕ)

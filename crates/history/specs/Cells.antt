@@ -3,8 +3,8 @@ use Prim.Native.Nat.{ℕ, _<_}
 use mathlib.Core.List.{List}
 use lib.Dec.{T}
 use lib.ListN.{length, getD}
-use Rattle.history.specs.declared.Mapped.{Mapped}
-use Rattle.history.specs.Mapping.{none}
+use Rattle.param_mapping.specs.declared.Mapped.{Mapped}
+use Rattle.param_mapping.specs.Mapping.{none}
 use Rattle.history_rows.specs.Rows.{rowAt}
 use Rattle.history.specs.Training.{coversOf}
 

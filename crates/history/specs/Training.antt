@@ -10,10 +10,10 @@ use Rattle.arith.specs.Outcome.{valueOf}
 use Rattle.encoding.specs.Encode.{toInternalOf}
 use Rattle.gp_model.specs.Scaling.{toNormalizedOf}
 use Rattle.dimensions.specs.declared.DimensionInfo.{DimensionInfo}
-use Rattle.history.specs.declared.Mapped.{Mapped}
+use Rattle.param_mapping.specs.declared.Mapped.{Mapped}
 use Rattle.history.specs.declared.Training.{Training}
 use Rattle.dimensions.specs.Dimensions.{dimensionAt, columnsOf}
-use Rattle.history.specs.Mapping.{none, mappedOf, numberOf}
+use Rattle.param_mapping.specs.Mapping.{none, mappedOf, numberOf}
 use Rattle.history_rows.specs.Rows.{rowAt, slotAt, objectiveOf, rowCount, recentOf}
 use Rattle.slots.specs.Slot.{takenWord}
 use Rattle.history_rows.specs.Slots.{slotWith}

@@ -2,19 +2,18 @@
 ghost use mathlib.Core.Path.{_≡_};
 ghost use Prim.Native.Nat.{ℕ, _*_, _≤_, _<_};
 ghost use lib.ListN.{length, getD};
-ghost use Rattle.arith.specs.Lists.{padded, placesOf};
+ghost use Rattle.arith.specs.Lists.{filled, padded, placesOf};
 ghost use Rattle.history.specs.Cells.{Cells};
-ghost use Rattle.history.specs.Mapping.{none};
+ghost use Rattle.param_mapping.specs.Mapping.{none, mappedOf};
 ghost use Rattle.history.specs.Places.{placesIn};
 ghost use Rattle.history_rows.specs.Rows.{widthOf, rowAt, rowCount};
 ghost use Rattle.history_rows.specs.Slots.{slotWith};
 ghost use Rattle.history.specs.Training.{coversOf, trainsOf, entryOf, columnOf, xOf, yOf, builtOf, refusedOf, recentTraining, trainingOf};
-use crate::Mapped;
 use crate::Places;
 use crate::Training;
 use crate::columns;
-use crate::param_mapping;
 use dimensions::DimensionInfo;
+use param_mapping::Mapped;
 
 // Whether a row has a slot for a dimension of that mapping.
 fn covers(n: usize, row: &[u64], m: Mapped) -> bool
@@ -165,12 +164,18 @@ fn of_columns(
     built(n, m, dims, mapping, columns, r, &at[0..count])
 }
 
-// The training data of m recent rows.
-fn recent_training(n: usize, dims: [DimensionInfo; 20], k: usize, m: usize, r: &[u64]) -> Training
-    requires { ⌜ (n ≤ 20) × (k ≤ 20) × (m ≤ 100) × (m ≡ rowCount n (now r)) × (length (now r) ≡ m * widthOf n) ⌝ }
+// The training data of m recent rows, by the mapping from the first of them.
+fn recent_training(
+    n: usize,
+    dims: [DimensionInfo; 20],
+    k: usize,
+    mapping: [Mapped; 20],
+    m: usize,
+    r: &[u64],
+) -> Training
+    requires { ⌜ (n ≤ 20) × (k ≤ 20) × (m ≤ 100) × (m ≡ rowCount n (now r)) × (length (now r) ≡ m * widthOf n) × (mapping ≡ filled none 20 (mappedOf n dims k (rowAt n (now r) 0))) ⌝ }
     ensures { λ r′. ⌜ r′ ≡ recentTraining n dims k (now (r .entry)) ⌝ }
 {
-    let mapping = param_mapping::recent_mapping(n, dims, k, m, r);
     let columns = columns::columns(dims, k);
     let d = columns.count;
     let at = columns.at;
@@ -194,11 +199,12 @@ fn refused(number: u64) -> Training
 pub fn build_training_data(slots: usize, dims: [DimensionInfo; 20], k: usize, h: &[u64]) -> Training
     ensures { λ r. ⌜ r ≡ trainingOf slots dims k (now (h .entry)) ⌝ }
 {
-    let number = param_mapping::number(slots, dims, k, h);
-    if number != 0 {
-        return refused(number);
+    let mapping = param_mapping::establish_param_mapping(slots, dims, k, h);
+    let ids = mapping.ids;
+    if mapping.number != 0 {
+        return refused(mapping.number);
     }
     let recent = history_rows::recent_part(slots, h);
     let start = recent.start;
-    recent_training(slots, dims, k, recent.rows, &h[start..])
+    recent_training(slots, dims, k, ids, recent.rows, &h[start..])
 }

@@ -17,7 +17,7 @@ use Rattle.distribution_words.specs.Words.{readOf, checkedOf, floatRead, intRea
 use Rattle.history.specs.RowsAgree.{RowsAgree}
 use Rattle.history_view.specs.Agree.{Agree}
 use Rattle.dimensions.specs.Dimensions.{dimensionOk, dimensionsOk, columnsOf}
-use Rattle.history.specs.Mapping.{insertById, entriesOf, firstEntry, consumedOf, matchesOf, mappedOf, numberOf}
+use Rattle.param_mapping.specs.Mapping.{insertById, entriesOf, firstEntry, consumedOf, matchesOf, mappedOf, numberOf}
 use Rattle.history_rows.specs.Rows.{rowAt, wholeRows, rowCount, recentCount, recentOf}
 use Rattle.history_rows.specs.Tests.{rowOk, slotsOk, idsOnce, rowsAgreeing, recentTests, refusalOf}
 use Rattle.slots.specs.Slot.{slotRead, slotOk, agreeing}
@@ -25,7 +25,7 @@ use Rattle.history_rows.specs.Slots.{slotWith}
 use Rattle.history.specs.Training.{coversOf, trainsOf, entryOf, columnOf, keptOf, xOf, yOf, recentTraining, trainingOf}
 use Rattle.history_view.specs.View.{viewOf}
 use Rattle.history_rows.proofs.Samples.{slot, row}
-use Rattle.history.proofs.Samples.{dims, first, second, third}
+use Rattle.param_mapping.proofs.Samples.{dims, first, second, third}
 
 abbrev Viewed : Type 0
 Viewed =

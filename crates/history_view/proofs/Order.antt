@@ -13,17 +13,17 @@ use borrow.Author.Tests.{eqb-true}
 use Rattle.arith.specs.Lists.{every, filled, placesOf}
 use Rattle.arith.proofs.Lists.{every-same, every-each, list-same, places-same}
 use Rattle.dimensions.specs.declared.DimensionInfo.{DimensionInfo}
-use Rattle.history.specs.declared.Mapped.{Mapped}
+use Rattle.param_mapping.specs.declared.Mapped.{Mapped}
 use Rattle.dimensions.specs.Dimensions.{dimensionsOk, columnsOf}
 use Rattle.history_rows.specs.Rows.{wholeRows, rowCount, recentOf, rowAt}
 use Rattle.history_rows.specs.Tests.{firstOf, rowOk, slotsOk, idsOnce, rowsAgreeing, recentTests, refusalOf}
-use Rattle.history.specs.Mapping.{none, mappedOf, numberOf, mappingOf}
+use Rattle.param_mapping.specs.Mapping.{none, mappedOf, numberOf, mappingOf}
 use Rattle.history.specs.Training.{trainsOf, columnOf, keptOf, xOf, yOf, builtOf, recentTraining, refusedOf, trainingOf}
 use Rattle.history_view.specs.View.{reachesOf, viewOf}
 use Rattle.history.specs.RowsAgree.{RowsAgree}
 use Rattle.history_view.specs.Agree.{WholeAgree, Agree, OrderFree, OlderUnread}
 use Rattle.history.proofs.KeptRows.{cell, kept-row, kept-covers}
-use Rattle.history.proofs.Opened.{accepted}
+use Rattle.param_mapping.proofs.Opened.{accepted}
 use Rattle.history_rows.proofs.Passed.{Passed}
 use Rattle.history_rows.proofs.Recent.{recent-none}
 use Rattle.history.proofs.SameRow.{row-same, slots-same, ids-same, trains-same, mapped-same, column-same, agreeing-same}

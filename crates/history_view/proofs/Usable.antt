@@ -26,10 +26,10 @@ use Rattle.common.proofs.Facts.{largest}
 use Rattle.gp_model.specs.Fit.{fitDomain}
 use Rattle.gp_model.specs.Statistics.{allWithin}
 use Rattle.dimensions.specs.declared.DimensionInfo.{DimensionInfo}
-use Rattle.history.specs.declared.Mapped.{Mapped}
+use Rattle.param_mapping.specs.declared.Mapped.{Mapped}
 use Rattle.history.specs.declared.Training.{Training}
 use Rattle.dimensions.specs.Dimensions.{dimensionAt, continuousOf, columnsOf}
-use Rattle.history.specs.Mapping.{none, mappedOf, numberOf}
+use Rattle.param_mapping.specs.Mapping.{none, mappedOf, numberOf}
 use Rattle.history_rows.specs.Rows.{rowCount, recentOf, rowAt, objectiveOf, slotAt}
 use Rattle.slots.specs.Slot.{idOf, takenWord}
 use Rattle.history_rows.specs.Tests.{rowOk, slotsOk, rowsAgreeing}
@@ -39,8 +39,8 @@ use Rattle.history_rows.specs.Slots.{slotWith}
 use Rattle.history.specs.Training.{coversOf, trainsOf, columnOf, keptOf, xOf, yOf, recentTraining, refusedOf, trainingOf}
 use Rattle.history_view.specs.Usable.{Usable}
 use Rattle.dimensions.proofs.Ok.{dimensions-ok}
-use Rattle.history.proofs.Consumed.{consumed}
-use Rattle.history.proofs.Opened as passing
+use Rattle.param_mapping.proofs.Consumed.{consumed}
+use Rattle.param_mapping.proofs.Opened as passing
 use Rattle.history_rows.proofs.Passed.{Passed}
 use Rattle.history.proofs.PlaceList.{columns-few}
 use Rattle.history_rows.proofs.Recent.{recent-few}

@@ -9,7 +9,7 @@ use Rattle.history.specs.RowsAgree.{RowsAgree}
 use Rattle.dimensions.specs.declared.DimensionInfo.{DimensionInfo}
 use Rattle.history_rows.specs.Rows.{wholeRows, rowCount, recentOf, rowAt}
 use Rattle.history_rows.specs.Tests.{refusalOf}
-use Rattle.history.specs.Mapping.{mappingOf}
+use Rattle.param_mapping.specs.Mapping.{mappingOf}
 use Rattle.history.specs.Training.{trainingOf}
 use Rattle.history_view.specs.View.{viewOf}
 

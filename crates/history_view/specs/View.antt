@@ -6,7 +6,7 @@ use lib.Dec.{eqb, leb}
 use Rattle.dimensions.specs.declared.DimensionInfo.{DimensionInfo}
 use Rattle.history_view.specs.declared.View.{View}
 use Rattle.history_rows.specs.Rows.{rowCount}
-use Rattle.history.specs.Mapping.{numberOf}
+use Rattle.param_mapping.specs.Mapping.{numberOf}
 use Rattle.history.specs.Training.{trainingOf}
 
 -- "Rows reaching start-up are counted over the whole history."

@@ -12,8 +12,8 @@ use dimensions::DimensionInfo;
 use distribution::CategoricalDistribution;
 use distribution::Distribution;
 use distribution::Read;
-use history::Mapped;
 use history::Training;
+use param_mapping::Mapped;
 
 // The dimensions of a line, or the number of their refusal.
 pub struct Dimensions {
@@ -94,7 +94,7 @@ pub(crate) fn mapping(args: &[u64], results: &mut Results) -> Reply
         return Reply::Refused(number);
     }
     let dims = ds.dims;
-    let m = history::establish_param_mapping(args[0] as usize, dims, k, &args[start..]);
+    let m = param_mapping::establish_param_mapping(args[0] as usize, dims, k, &args[start..]);
     let refused = m.number;
     if refused != 0 {
         return Reply::Refused(refused);

@@ -35,7 +35,7 @@ use Rattle.gp_model.specs.Scaling.{fromNormalizedOf, toNormalizedOf}
 use Rattle.gp_model.specs.Statistics.{allWithin, lengthscaleOf, meanOf, varianceOf}
 use Rattle.dimensions.specs.declared.DimensionInfo.{DimensionInfo}
 use Rattle.dimensions.specs.Dimensions.{dimensionOf, dimensionOk, dimensionsOk, columnsOf}
-use Rattle.history.specs.Mapping.{insertById, entriesOf, firstEntry, consumedOf, matchesOf, mappedOf, numberOf}
+use Rattle.param_mapping.specs.Mapping.{insertById, entriesOf, firstEntry, consumedOf, matchesOf, mappedOf, numberOf}
 use Rattle.history_rows.specs.Rows.{wholeRows, rowCount, recentCount, recentOf}
 use Rattle.history_rows.specs.Tests.{rowOk, slotsOk, idsOnce, rowsAgreeing, recentTests, refusalOf}
 use Rattle.slots.specs.Slot.{slotRead, slotOk, agreeing}

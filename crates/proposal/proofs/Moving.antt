@@ -28,7 +28,7 @@ use Rattle.dimensions.specs.declared.DimensionInfo.{DimensionInfo}
 use Rattle.history.specs.declared.Training.{Training}
 use Rattle.history_view.specs.declared.View.{View}
 use Rattle.dimensions.specs.Dimensions.{dimensionAt, columnsOf}
-use Rattle.history.specs.Mapping.{numberOf}
+use Rattle.param_mapping.specs.Mapping.{numberOf}
 use Rattle.history_view.specs.View.{viewOf}
 use Rattle.settings.specs.declared.Settings.{Settings}
 use Rattle.settings.specs.Settings.{settingsOk}

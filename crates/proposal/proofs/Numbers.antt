@@ -13,12 +13,12 @@ use Rattle.arith.proofs.Tests.{taken}
 use Rattle.distribution.proofs.Facts.{parts}
 use Rattle.dimensions.specs.declared.DimensionInfo.{DimensionInfo}
 use Rattle.history.specs.declared.Training.{Training}
-use Rattle.history.specs.Mapping.{numberOf}
+use Rattle.param_mapping.specs.Mapping.{numberOf}
 use Rattle.history_view.specs.View.{viewOf}
 use Rattle.history.specs.Training.{trainingOf}
 use Rattle.history.proofs.Counts.{Counts, training-counts}
 use Rattle.history.proofs.FromArray.{training-number}
-use Rattle.history.proofs.Opened.{opened}
+use Rattle.param_mapping.proofs.Opened.{opened}
 use Rattle.settings.specs.declared.Settings.{Settings}
 use Rattle.settings.specs.Settings.{settingsOk}
 use Rattle.proposal.specs.Points.{fitFor, searchPoint, unitPoint, pointFor}

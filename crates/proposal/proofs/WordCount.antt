@@ -22,11 +22,11 @@ use Rattle.dimensions.specs.declared.DimensionInfo.{DimensionInfo}
 use Rattle.history.specs.declared.Training.{Training}
 use Rattle.history_view.specs.declared.View.{View}
 use Rattle.dimensions.specs.Dimensions.{dimensionAt, continuousOf, dimensionOk, dimensionsOk, columnsOf}
-use Rattle.history.specs.Mapping.{numberOf}
+use Rattle.param_mapping.specs.Mapping.{numberOf}
 use Rattle.history.specs.Training.{recentTraining}
 use Rattle.history_view.specs.View.{viewOf}
 use Rattle.history.proofs.FromArray.{training-is}
-use Rattle.history.proofs.Opened.{accepted}
+use Rattle.param_mapping.proofs.Opened.{accepted}
 use Rattle.dimensions.proofs.Ok.{dimensions-ok}
 use Rattle.history_view.proofs.Values.{floats-fit, bounds-shape}
 use Rattle.settings.specs.declared.Settings.{Settings}

@@ -6,7 +6,7 @@ use lib.Dec.{eqb, leb}
 use Rattle.arith.specs.Lists.{filled, padded}
 use Rattle.dimensions.specs.declared.DimensionInfo.{DimensionInfo}
 use Rattle.history_view.specs.declared.View.{View}
-use Rattle.history.specs.Mapping.{numberOf}
+use Rattle.param_mapping.specs.Mapping.{numberOf}
 use Rattle.history_view.specs.View.{viewOf}
 use Rattle.settings.specs.declared.Settings.{Settings}
 use Rattle.settings.specs.Settings.{settingsOk}

@@ -15,7 +15,7 @@ use Rattle.distribution.specs.declared.ParamValue.{ParamValue}
 use Rattle.common.specs.Decode.{fromInternalOf}
 use Rattle.common.specs.Random.{sampleRandomOf}
 use Rattle.dimensions.specs.Dimensions.{dimensionOf}
-use Rattle.history.specs.Mapping.{none, mappingOf}
+use Rattle.param_mapping.specs.Mapping.{none, mappingOf}
 use Rattle.acquisition.specs.Improvement.{expectedImprovementOf}
 use Rattle.acquisition.specs.Normal.{normCdfOf}
 use Rattle.rng_util.specs.Draws.{wholeDrawOf}

@@ -13,7 +13,7 @@ use Rattle.distribution_words.specs.Words.{readOf, checkedOf, intRead, categori
 use Rattle.encoding.specs.Bounds.{boundsOf, endsOf}
 use Rattle.common.specs.Random.{sampleRandomOf, randomOf, intRandom, linearIntRandom, categoricalRandom, fromWhole}
 use Rattle.dimensions.specs.Dimensions.{dimensionOk, dimensionsOk, columnsOf}
-use Rattle.history.specs.Mapping.{numberOf}
+use Rattle.param_mapping.specs.Mapping.{numberOf}
 use Rattle.history_rows.specs.Rows.{wholeRows, rowCount, recentCount, recentOf}
 use Rattle.history_rows.specs.Tests.{recentTests, refusalOf}
 use Rattle.history.specs.Training.{trainingOf, recentTraining}

@@ -19,7 +19,7 @@ use Rattle.distribution.proofs.Facts.{parts}
 use Rattle.common.specs.Random.{sampleRandomOf}
 use Rattle.history.specs.declared.Training.{Training}
 use Rattle.dimensions.specs.Dimensions.{dimensionAt, dimensionsOk, columnsOf}
-use Rattle.history.specs.Mapping.{numberOf}
+use Rattle.param_mapping.specs.Mapping.{numberOf}
 use Rattle.history_rows.specs.Rows.{widthOf, wholeRows, rowCount, recentOf, olderOf}
 use Rattle.history_rows.specs.Tests.{firstOf, recentTests, refusalOf}
 use Rattle.history.specs.Training.{recentTraining, trainingOf}

@@ -19,7 +19,7 @@ use Rattle.distribution.proofs.Facts.{parts, asked}
 use Rattle.dimensions.specs.declared.DimensionInfo.{DimensionInfo}
 use Rattle.history_view.specs.declared.View.{View}
 use Rattle.dimensions.specs.Dimensions.{dimensionsOk}
-use Rattle.history.specs.Mapping.{numberOf}
+use Rattle.param_mapping.specs.Mapping.{numberOf}
 use Rattle.history_rows.specs.Rows.{wholeRows}
 use Rattle.history_rows.specs.Tests.{rowOk, slotsOk, idsOnce, rowsAgreeing, recentTests, refusalOf}
 use Rattle.history_view.specs.View.{viewOf}

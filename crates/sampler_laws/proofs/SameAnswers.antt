@@ -12,7 +12,7 @@ use Rattle.common.specs.Random.{sampleRandomOf}
 use Rattle.dimensions.specs.declared.DimensionInfo.{DimensionInfo}
 use Rattle.history_view.specs.declared.View.{View}
 use Rattle.history_view.specs.Agree.{Agree}
-use Rattle.history.specs.Mapping.{numberOf}
+use Rattle.param_mapping.specs.Mapping.{numberOf}
 use Rattle.dimensions.specs.Dimensions.{dimensionsOk}
 use Rattle.history_rows.specs.Tests.{refusalOf}
 use Rattle.history_view.specs.View.{viewOf}

@@ -3,7 +3,7 @@ use Prim.Native.Nat.{_+_, _*_, _<_}
 use mathlib.Core.Path.{_≡_, sym, _∙_}
 use native.Mathlib.Omega.{arith}
 use lib.ListN.{getD}
-use Rattle.history.specs.Mapping.{none}
+use Rattle.param_mapping.specs.Mapping.{none}
 use Rattle.history.specs.Training.{columnOf}
 use Rattle.history_rows.specs.Slots.{slotWith}
 use Rattle.history_rows.proofs.Border.{place-with}

@@ -9,9 +9,6 @@ use borrow.Author.Needs.{needs}
 use Rattle.history.proofs.building.recent_training.Statement.{statement}
 use Rattle.history.proofs.building.recent_training.Tie as tie
 
-recent-mapping-requires : tie.Need-recent-mapping-requires
-recent-mapping-requires c κs = search needs
-
 columns-requires : tie.Need-columns-requires
 columns-requires c κs = search needs
 
@@ -24,7 +21,7 @@ part-of-columns-start c = search needs
 part-of-columns-end : tie.Need-part-of-columns-end
 part-of-columns-end c =
     let d = c .before .before in
-    let s = d .before .before .before in
+    let s = d .before .before in
     let a = s .args in
     let few = columns-few (a .dims) (a .k) in
     let f = places-fit (d .columns .result) (columnsOf (a .dims) (a .k)) (d .columns .ensures) (omega arith) in
@@ -33,7 +30,7 @@ part-of-columns-end c =
 of-columns-requires : tie.Need-of-columns-requires
 of-columns-requires c κs =
     let d = c .before .before .before in
-    let s = d .before .before .before in
+    let s = d .before .before in
     let a = s .args in
     let few = columns-few (a .dims) (a .k) in
     rw (places-lent (d .columns .result) (columnsOf (a .dims) (a .k)) (d .columns .ensures)) (s .pre .0, s .pre .2, s .pre .4, omega arith, λ j l. le-trans (column-below (a .dims) (a .k) j l) (s .pre .1))
@@ -41,17 +38,16 @@ of-columns-requires c κs =
 returns : tie.Need-returns
 returns c =
     let d = c .before .before .before .before in
-    let s = d .before .before .before in
+    let s = d .before .before in
     let a = s .args in
     let few = columns-few (a .dims) (a .k) in
     c .of-columns .ensures
-    ∙ rw (places-lent (d .columns .result) (columnsOf (a .dims) (a .k)) (d .columns .ensures), d .before .recent-mapping .ensures) (training-same (a .n) (a .dims) (a .k) (a .r .now) (a .m) (s .pre .3))
+    ∙ rw (places-lent (d .columns .result) (columnsOf (a .dims) (a .k)) (d .columns .ensures), s .pre .5) (training-same (a .n) (a .dims) (a .k) (a .r .now) (a .m) (s .pre .3))
 
 pub recent-training-spec : {M : Type 1} → statement M
 recent-training-spec =
     tie.close
     (tie.spec
-    recent-mapping-requires
     columns-requires
     sub-of-columns
     part-of-columns-start

@@ -8,7 +8,7 @@ use borrow.Author.Tests.{not-true, not-false}
 use Rattle.arith.specs.Lists.{every}
 use Rattle.arith.proofs.Lists.{every-not}
 use lib.ListN.{length, getD}
-use Rattle.history.specs.Mapping.{none}
+use Rattle.param_mapping.specs.Mapping.{none}
 use Rattle.history.specs.Training.{coversOf, trainsOf}
 use borrow.Author.Needs.{needs}
 use Rattle.history.proofs.building.trains.Statement.{statement}

@@ -10,7 +10,7 @@ use Rattle.history.specs.Training.{trainingOf}
 use Rattle.history_view.specs.View.{reachesOf}
 use Rattle.history.proofs.FromArray.{training-number}
 use Rattle.history_view.proofs.Views.{view-is}
-use Rattle.history.proofs.Opened.{opened}
+use Rattle.param_mapping.proofs.Opened.{opened}
 use borrow.Author.Needs.{needs}
 use Rattle.history_view.proofs.viewing.view_of.Statement.{statement}
 use Rattle.history_view.proofs.viewing.view_of.Tie as tie
