@@ -1,6 +1,7 @@
 -- `lanes::roots::is_nearest` meets its contract. Assumes nothing.
 use mathlib.Core.Path.{sym}
 use mathlib.Core.Bool.{true≢false}
+use native.Mathlib.Nat.{le-trans}
 use native.Mathlib.Omega.{arith}
 use borrow.Author.Tests.{ltb-true}
 use Rattle.arith.proofs.RootWhole.{part-bounds}
@@ -49,7 +50,7 @@ returns : tie.Need-returns
 returns c =
     let a = c .before .before in
     let s = a .before in
-    (λ t. near-by (s .args .q) (s .args .nh) (s .args .nl) (s .pre .0) (s .pre .1) (a .if1 .taken) (c .if3 .taken) (ltb-true _ _ t))
+    (λ t. near-by (s .args .q) (s .args .nh) (s .args .nl) (s .pre .0) (s .pre .1) (a .if1 .taken) (c .if3 .taken) (le-trans (ltb-true _ _ t) (omega arith)))
 
 returns-2 : tie.Need-returns-2
 returns-2 c = (λ t. absurd (true≢false (sym t)))
