@@ -23,21 +23,6 @@ struct Done {
     at: usize,
 }
 
-// Where the first newline stands at or after `from` and before `end`, or `end`.
-fn newline(s: &[u8], from: usize, end: usize) -> usize
-    requires { ⌜ (from ≤ end) × (end ≤ length (now s)) ⌝ }
-    ensures { λ r. ⌜ (from ≤ r) × (r ≤ end) ⌝ }
-{
-    let mut i = from;
-    while i < end {
-        if s[i] == b'\n' {
-            return i;
-        }
-        i += 1;
-    }
-    i
-}
-
 // One line, answered. `long`: these bytes are the end of a line that is longer than the buffer.
 fn answered(
     s: &[u8],
@@ -74,7 +59,7 @@ fn lines(
     let mut first = long;
     let mut to = at;
     while used < end {
-        let e = newline(s, used, end);
+        let e = bytes::scan::find(s, used, end, b'\n');
         if e == end {
             return Done {
                 used,
@@ -93,25 +78,6 @@ fn lines(
     }
 }
 
-// Moves the bytes from `used` up to `have` to the front.
-fn shift(buf: &mut [u8], used: usize, have: usize)
-    requires { ⌜ (used ≤ have) × (have ≤ length (now buf)) ⌝ }
-{
-    let mut i = used;
-    while i < have {
-        buf[i - used] = buf[i];
-        i += 1;
-    }
-}
-
-// One read: how many bytes it put at the start of buf, 0 at the end of the input or where it failed.
-fn fill(buf: &mut [u8]) -> usize
-    ensures { λ r. ⌜ r ≤ length (now (buf .entry)) ⌝ }
-{
-    let got = libc::read(0, buf);
-    io::count(got, buf)
-}
-
 // One read, with the lines that it completes. A buffer full of one line is emptied.
 fn turn(
     buf: &mut [u8],
@@ -125,7 +91,8 @@ fn turn(
     requires { ⌜ (have ≤ length (now buf)) × (at ≤ length (now out)) × (18 ≤ length (now out)) ⌝ }
     ensures { λ r. ⌜ (r .have ≤ length (now (buf .entry))) × (r .at ≤ length (now (out .entry))) ⌝ }
 {
-    let n = fill(&mut buf[have..]);
+    let f = pieces::fill(&mut buf[have..]);
+    let n = f.n;
     if n == 0 {
         return Held {
             have,
@@ -146,7 +113,7 @@ fn turn(
             more: true,
         };
     }
-    shift(buf, used, full);
+    pieces::keep(buf, used, full);
     Held {
         have: left,
         long: done.long,

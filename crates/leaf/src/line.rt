@@ -23,7 +23,7 @@ pub enum Read {
 pub(crate) fn answer(line: &[u8], words: &mut [u64], results: &mut Results) -> Reply
     ensures { λ r. ⌜ ResultsFit r ⌝ }
 {
-    let end = name_end(line);
+    let end = bytes::scan::find(line, 0, line.len(), b' ');
     let read = read_words(line, end, words);
     match read {
         Read::Words(n) => call(&line[0..end], &words[0..n], results),
@@ -178,20 +178,6 @@ fn same(a: &[u8], b: &[u8]) -> bool {
         i += 1;
     }
     true
-}
-
-// Where the name ends: at the first space, or with the line.
-fn name_end(line: &[u8]) -> usize
-    ensures { λ r. ⌜ r ≤ length (now (line .entry)) ⌝ }
-{
-    let mut i = 0;
-    while i < line.len() {
-        if line[i] == b' ' {
-            return i;
-        }
-        i += 1;
-    }
-    i
 }
 
 // Reads the line's words from `from` on, a space before each, to the start of words.

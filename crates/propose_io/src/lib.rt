@@ -98,17 +98,6 @@ fn lines(points: bool, reader: Reader, buf: &[u8], end: usize, history: &mut [u6
     }
 }
 
-// Moves the bytes from `used` up to `have` to the front.
-fn shift(buf: &mut [u8], used: usize, have: usize)
-    requires { ⌜ (used ≤ have) × (have ≤ length (now buf)) ⌝ }
-{
-    let mut i = used;
-    while i < have {
-        buf[i - used] = buf[i];
-        i += 1;
-    }
-}
-
 // How many bytes to ask for: what the buffer has room for, and no more than the text has left.
 fn asked(room: usize, left: u64) -> usize
     ensures { λ r. ⌜ (r ≤ room) × (r ≤ left) ⌝ }
@@ -118,24 +107,6 @@ fn asked(room: usize, left: u64) -> usize
     } else {
         left as usize
     }
-}
-
-// One read: how many bytes it put at the start of buf, 0 at the end of the input; a failure is told.
-struct Filled {
-    n: usize,
-    failed: bool,
-}
-
-fn fill(buf: &mut [u8]) -> Filled
-    ensures { λ r. ⌜ r .n ≤ length (now (buf .entry)) ⌝ }
-{
-    let got = libc::read(0, buf);
-    if got < 0 {
-        io::write_all(2, b"Standard input cannot be read.\n");
-        return Filled { n: 0, failed: true };
-    }
-    let n = io::count(got, buf);
-    Filled { n, failed: false }
 }
 
 // What the bytes up to `full` come to, n of them new. A line that is longer than any table has ends the run.
@@ -172,7 +143,7 @@ fn taken(
             more: false,
         };
     }
-    shift(buf, used, full);
+    pieces::keep(buf, used, full);
     Held {
         reader: after,
         have,
@@ -194,7 +165,7 @@ fn turn(
     ensures { λ r. ⌜ (r .have ≤ length (now (buf .entry))) × (r .left ≤ left) ⌝ }
 {
     let end = have + asked(buf.len() - have, left);
-    let f = fill(&mut buf[have..end]);
+    let f = pieces::fill(&mut buf[have..end]);
     let n = f.n;
     if n > 0 {
         return taken(points, reader, buf, have + n, left - n as u64, history);
@@ -275,7 +246,7 @@ fn pass(buf: &mut [u8], count: u64) -> u64
     let mut left = count;
     while left > 0 {
         let end = asked(buf.len(), left);
-        let f = fill(&mut buf[0..end]);
+        let f = pieces::fill(&mut buf[0..end]);
         if f.n == 0 {
             return left;
         }

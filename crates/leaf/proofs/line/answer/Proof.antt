@@ -8,8 +8,8 @@ use Rattle.leaf.specs.Counts.{WordsFit}
 use Rattle.leaf.proofs.line.answer.Statement.{statement}
 use Rattle.leaf.proofs.line.answer.Tie as tie
 
-name-end-requires : tie.Need-name-end-requires
-name-end-requires c κs = search needs
+find-requires : tie.Need-find-requires
+find-requires c κs = search needs
 
 read-words-requires : tie.Need-read-words-requires
 read-words-requires c κs = search needs
@@ -60,7 +60,7 @@ pub answer-spec : {M : Type 1} → statement M
 answer-spec =
     tie.close
     (tie.spec
-    name-end-requires
+    find-requires
     read-words-requires
     enum-known-read
     sub-call
