@@ -2,14 +2,14 @@
 ghost use mathlib.Core.Path.{_≡_};
 ghost use Rattle.rng_util.specs.Draws.{wordDrawOf, unitDrawOf, wholeDrawOf};
 ghost use Rattle.common.specs.Random.{sampleRandomOf};
-ghost use Rattle.gp_model.specs.Search.{optimizeAcquisitionOf};
+ghost use Rattle.search.specs.Search.{optimizeAcquisitionOf};
 use common::RandomDraw;
 use distribution::Distribution;
 use gp_model::Model;
-use gp_model::Searched;
 use rng_util::UnitDraw;
 use rng_util::WholeDraw;
 use rng_util::WordDraw;
+use search::Searched;
 
 pub struct Generator {
     pub word: u64,
@@ -60,7 +60,7 @@ pub fn optimize_acquisition(
 ) -> Searched
     ensures { λ r. ⌜ (r ≡ optimizeAcquisitionOf m «n_dims» «n_candidates» (now (g .entry) .word)) × (now (g .exit) .word ≡ optimizeAcquisitionOf m «n_dims» «n_candidates» (now (g .entry) .word) .next) ⌝ }
 {
-    let a = gp_model::optimize_acquisition(m, n_dims, n_candidates, g.word);
+    let a = search::optimize_acquisition(m, n_dims, n_candidates, g.word);
     g.word = a.next;
     a
 }

@@ -1,7 +1,3 @@
-mod Cases
-pub mod Beside
+pub mod Cases
 pub mod Domain
-pub mod Earliest
-pub mod LaneScores
-pub mod Passes
 pub mod Table

@@ -6,7 +6,7 @@ use lib.Dec.{eqb}
 use lib.IntN.{pos}
 use lib.ListN.{take, drop}
 use lib.Ieee.{Float, binary64, add, ofInt}
-use Rattle.arith.specs.Lists.{listOf, padded}
+use Rattle.arith.specs.Lists.{padded}
 use Rattle.arith.specs.Outcome.{valueOf}
 use Rattle.factor.specs.Triangle.{rowsOf}
 use Rattle.kernel.specs.Matern.{matern52Of}
@@ -27,7 +27,3 @@ covarianceOf x d l noise i j = cond (eqb i j) (add binary64 (similarityOf (rowOf
 -- its lower triangle, packed
 abbrev pub kernelMatrixOf : List Float → ℕ → ℕ → List Float → Float → List Float
 kernelMatrixOf x n d l noise = padded 5050 (rowsOf (covarianceOf x d l noise) n)
-
--- k(x*, X): the kernel of a point and each of the n rows
-abbrev pub kernelVectorOf : List Float → ℕ → ℕ → List Float → List Float → List Float
-kernelVectorOf x n d l p = listOf (λ i. similarityOf p (rowOf x d i) l) n

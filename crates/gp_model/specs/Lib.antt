@@ -1,9 +1,3 @@
-pub mod Earliest
-pub mod Eights
 pub mod Fit
-pub mod KernelParts
 pub mod Kernels
-pub mod Predict
-pub mod Scaling
-pub mod Search
 pub mod Statistics

@@ -4,8 +4,7 @@ ghost use Prim.Native.Nat.{_+_, _*_, _≤_, _<_};
 ghost use lib.ListN.{length};
 ghost use Rattle.arith.specs.Lists.{padded};
 ghost use Rattle.factor.specs.Triangle.{rowsOf};
-ghost use Rattle.gp_model.specs.KernelParts.{distancesOf, scaledRootsOf, decaysOf};
-ghost use Rattle.gp_model.specs.Kernels.{rowOf, similarityOf, covarianceOf, kernelMatrixOf, kernelVectorOf};
+ghost use Rattle.gp_model.specs.Kernels.{rowOf, similarityOf, covarianceOf, kernelMatrixOf};
 
 // Row i of a table of d columns.
 fn row(x: &[f64], d: usize, i: usize) -> &[f64]
@@ -18,68 +17,10 @@ fn row(x: &[f64], d: usize, i: usize) -> &[f64]
 }
 
 // The kernel of two points.
-fn similarity(x1: &[f64], x2: &[f64], lengthscales: &[f64]) -> f64
+pub fn similarity(x1: &[f64], x2: &[f64], lengthscales: &[f64]) -> f64
     ensures { λ r. ⌜ r ≡ similarityOf (now (x1 .entry)) (now (x2 .entry)) (now (lengthscales .entry)) ⌝ }
 {
     arith::value(kernel::matern52(x1, x2, lengthscales, 1.0))
-}
-
-// The squared distances of a point and each of the n rows of a table of d columns.
-fn distances(x: &[f64], n: usize, d: usize, lengthscales: &[f64], p: &[f64]) -> [f64; 100]
-    requires { ⌜ (n ≤ 100) × (n * d ≤ length (now x)) ⌝ }
-    ensures { λ r. ⌜ r ≡ padded 100 (distancesOf (now (x .entry)) n d (now (lengthscales .entry)) (now (p .entry))) ⌝ }
-{
-    let mut out = [0.0; 100];
-    let mut i = 0;
-    while i < n {
-        out[i] = arith::value(kernel::squared_distance(p, row(x, d, i), lengthscales));
-        i += 1;
-    }
-    out
-}
-
-// The scaled root of each of n squared distances.
-fn scaled_roots(r_sq: &[f64; 100], n: usize) -> [f64; 100]
-    requires { ⌜ n ≤ 100 ⌝ }
-    ensures { λ r. ⌜ r ≡ padded 100 (scaledRootsOf (now («r_sq» .entry)) n) ⌝ }
-{
-    let mut out = [0.0; 100];
-    let mut i = 0;
-    while i < n {
-        out[i] = kernel::scaled_root(r_sq[i]);
-        i += 1;
-    }
-    out
-}
-
-// The kernel by each of n squared distances and scaled roots.
-fn decays(r_sq: &[f64; 100], sqrt5_r: &[f64; 100], n: usize) -> [f64; 100]
-    requires { ⌜ n ≤ 100 ⌝ }
-    ensures { λ r. ⌜ r ≡ padded 100 (decaysOf (now («r_sq» .entry)) (now («sqrt5_r» .entry)) n) ⌝ }
-{
-    let mut out = [0.0; 100];
-    let mut i = 0;
-    while i < n {
-        out[i] = arith::value(kernel::decay(r_sq[i], sqrt5_r[i], 1.0));
-        i += 1;
-    }
-    out
-}
-
-// The kernel of a point and each of the n rows, in three passes: the rows' roots and exps do not wait for each other.
-pub(crate) fn kernel_vector(
-    x: &[f64],
-    n: usize,
-    d: usize,
-    lengthscales: &[f64],
-    p: &[f64],
-) -> [f64; 100]
-    requires { ⌜ (n ≤ 100) × (n * d ≤ length (now x)) × (length (now lengthscales) ≡ d) × (length (now p) ≡ d) ⌝ }
-    ensures { λ r. ⌜ r ≡ padded 100 (kernelVectorOf (now (x .entry)) n d (now (lengthscales .entry)) (now (p .entry))) ⌝ }
-{
-    let r_sq = distances(x, n, d, lengthscales, p);
-    let sqrt5_r = scaled_roots(&r_sq, n);
-    decays(&r_sq, &sqrt5_r, n)
 }
 
 // Entry (i, j) of K + σ² I.

@@ -1,18 +1,11 @@
-// The Gaussian-process model of gp.rs: its fit, its prediction and the search for the next point.
-pub mod eights;
+// The Gaussian-process model of gp.rs, and its fit.
 pub mod fitting;
 pub mod kernels;
-pub mod predicting;
-pub mod scaling;
-pub mod searching;
 pub mod statistics;
 
 pub use fitting::fit_gp;
-pub use predicting::predict;
-pub use scaling::from_normalized;
-pub use scaling::to_normalized;
-pub use searching::draw_point;
-pub use searching::optimize_acquisition;
+pub use kernels::similarity;
+pub use statistics::all_within;
 
 // A fitted model: its n rows of d columns, lengthscales, factor, weights and best value. What lies past the counts is zero.
 pub struct Model {
@@ -29,49 +22,4 @@ pub struct Model {
 pub struct Fit {
     pub number: u64,
     pub model: Model,
-}
-
-// The mean and the deviation at a point.
-pub struct Posterior {
-    pub mean: f64,
-    pub std: f64,
-}
-
-// A prediction: number is 0, or 11 with zeros.
-pub struct Prediction {
-    pub number: u64,
-    pub mean: f64,
-    pub std: f64,
-}
-
-// What a search found: number is 0, or 11 with zeros and the word as it was.
-pub struct Searched {
-    pub number: u64,
-    pub point: [f64; 20],
-    pub next: u64,
-}
-
-// A point drawn, and the generator's word after it.
-pub struct Candidate {
-    pub x: [f64; 20],
-    pub next: u64,
-}
-
-// A search under way: the generator's word, the best score so far and its point.
-pub struct Search {
-    pub word: u64,
-    pub best_ei: f64,
-    pub best_x: [f64; 20],
-}
-
-// The words before eight points, and the word after them.
-pub struct Starts {
-    pub words: [u64; 8],
-    pub next: u64,
-}
-
-// One coordinate of eight points, and the generators' words after it.
-pub struct Column {
-    pub values: [f64; 8],
-    pub next: [u64; 8],
 }

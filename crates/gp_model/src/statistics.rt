@@ -7,7 +7,7 @@ ghost use Rattle.arith.specs.Sums.{sumOver};
 ghost use Rattle.gp_model.specs.Statistics.{allWithin, columnOf, squaresOf, meanOf, varianceOf, valueDeviationOf, standardizedOf, lengthscalesOf};
 
 // Whether every element is at most the limit in size.
-pub(crate) fn all_within(xs: &[f64], limit: f64) -> bool
+pub fn all_within(xs: &[f64], limit: f64) -> bool
     ensures { λ r. ⌜ r ≡ allWithin limit (now (xs .entry)) ⌝ }
 {
     let mut i = 0;

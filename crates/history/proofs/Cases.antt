@@ -10,7 +10,7 @@ use Rattle.arith.specs.Lists.{every, grown, placeOf, placesOf}
 use Rattle.encoding.specs.Bounds.{endsOf, boundsOf}
 use Rattle.encoding.specs.Encode.{encodedOf, toInternalOf}
 use Rattle.distribution.specs.declared.Distribution.{Distribution}
-use Rattle.gp_model.specs.Scaling.{toNormalizedOf}
+use Rattle.scaling.specs.Scaling.{toNormalizedOf}
 use Rattle.distribution.specs.Equal.{equalOf, floatEqual, intEqual}
 use Rattle.distribution.specs.Shape.{shapeOf, floatStep, intShape, intStep, categoricalShape}
 use Rattle.distribution.specs.Taken.{takenOf, valueOf, floatTaken, intTaken}

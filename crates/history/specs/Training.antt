@@ -8,7 +8,7 @@ use lib.Ieee.{Float, binary64, ofBits}
 use Rattle.arith.specs.Lists.{every, listOf, padded, placesOf}
 use Rattle.arith.specs.Outcome.{valueOf}
 use Rattle.encoding.specs.Encode.{toInternalOf}
-use Rattle.gp_model.specs.Scaling.{toNormalizedOf}
+use Rattle.scaling.specs.Scaling.{toNormalizedOf}
 use Rattle.dimensions.specs.declared.DimensionInfo.{DimensionInfo}
 use Rattle.param_mapping.specs.declared.Mapped.{Mapped}
 use Rattle.history.specs.declared.Training.{Training}

@@ -67,7 +67,7 @@ fn entry(d: DimensionInfo, slot: &[u64]) -> f64
 {
     let distribution = d.distribution;
     let internal = encoding::to_internal(slots::value(slot), distribution);
-    gp_model::to_normalized(arith::value(internal), d.lo, d.hi)
+    scaling::to_normalized(arith::value(internal), d.lo, d.hi)
 }
 
 // A row's value for dimension j.

@@ -9,7 +9,7 @@ use lib.Ieee.{ofBits, ofInt, toBits, neg, le, lt, eq, sub, div, round}
 use Rattle.arith.specs.Lists.{every, grown, placeOf, placesOf}
 use Rattle.encoding.specs.Bounds.{endsOf, boundsOf}
 use Rattle.encoding.specs.Encode.{encodedOf, toInternalOf}
-use Rattle.gp_model.specs.Scaling.{toNormalizedOf}
+use Rattle.scaling.specs.Scaling.{toNormalizedOf}
 use Rattle.distribution.specs.Equal.{equalOf, floatEqual, intEqual}
 use Rattle.distribution.specs.Shape.{shapeOf, floatStep, intShape, intStep, categoricalShape}
 use Rattle.distribution.specs.Taken.{takenOf, valueOf, floatTaken, intTaken}

@@ -19,7 +19,7 @@ use Rattle.encoding.specs.declared.InternalBounds.{InternalBounds}
 use Rattle.encoding.specs.Bounds.{endsOf, boundsOf}
 use Rattle.encoding.proofs.EndLaws.{FloatsFit, continuous, bounds}
 use Rattle.common.proofs.Facts.{ValueFits, encode-accepted, apart, largest, normalised}
-use Rattle.gp_model.specs.Scaling.{toNormalizedOf}
+use Rattle.scaling.specs.Scaling.{toNormalizedOf}
 use Rattle.dimensions.specs.declared.DimensionInfo.{DimensionInfo}
 use Rattle.dimensions.specs.Dimensions.{sameBits, boundsAre, continuousOf, dimensionOk}
 use Rattle.slots.specs.Slot.{takenWord}

@@ -1,4 +1,4 @@
-// The leaves of `kernel` and `gp_model`: counts, then floats as words. A line whose words are not as many as its counts say is none of these.
+// The leaves of `kernel`, `gp_model` and `search`: counts, then floats as words. A line whose words are not as many as its counts say is none of these.
 ghost use Prim.Native.Nat.{_+_, _≤_};
 ghost use lib.ListN.{length};
 ghost use Rattle.leaf.specs.Counts.{ResultsFit};
@@ -189,7 +189,7 @@ pub(crate) fn predict(args: &[u64], results: &mut Results) -> Reply
     let m = f.model;
     let xs = floats(args);
     let end = args.len();
-    let r = gp_model::predict(m, &xs[values..end]);
+    let r = search::predict(m, &xs[values..end]);
     if r.number != 0 {
         return Reply::Refused(r.number);
     }
@@ -222,7 +222,7 @@ pub(crate) fn optimize_acquisition(args: &[u64], results: &mut Results) -> Reply
     }
     let m = f.model;
     let d = m.d;
-    let r = gp_model::optimize_acquisition(m, d, args[values], args[values + 1]);
+    let r = search::optimize_acquisition(m, d, args[values], args[values + 1]);
     if r.number != 0 {
         return Reply::Refused(r.number);
     }

@@ -1,4 +1,4 @@
-// The leaves of `acquisition` and of the scaling in `gp_model`: floats, and one float out.
+// The leaves of `acquisition` and of `scaling`: floats, and one float out.
 ghost use Rattle.leaf.specs.Counts.{ResultsFit};
 use crate::reply;
 use crate::reply::Reply;
@@ -52,7 +52,7 @@ pub(crate) fn to_normalized(args: &[u64], results: &mut Results) -> Reply
     let value = arith::float_of_word(args[0]);
     let lo = arith::float_of_word(args[1]);
     let hi = arith::float_of_word(args[2]);
-    reply::float(gp_model::to_normalized(value, lo, hi), results)
+    reply::float(scaling::to_normalized(value, lo, hi), results)
 }
 
 pub(crate) fn from_normalized(args: &[u64], results: &mut Results) -> Reply
@@ -64,5 +64,5 @@ pub(crate) fn from_normalized(args: &[u64], results: &mut Results) -> Reply
     let value = arith::float_of_word(args[0]);
     let lo = arith::float_of_word(args[1]);
     let hi = arith::float_of_word(args[2]);
-    reply::float(gp_model::from_normalized(value, lo, hi), results)
+    reply::float(scaling::from_normalized(value, lo, hi), results)
 }

@@ -29,9 +29,9 @@ use Rattle.common.specs.Grid.{intGrid}
 use Rattle.common.specs.Random.{sampleRandomOf, randomOf, intRandom, linearIntRandom, categoricalRandom, fromWhole}
 use Rattle.gp_model.specs.Fit.{fitDomain, fittedOf, fitOf}
 use Rattle.gp_model.specs.Kernels.{covarianceOf, similarityOf}
-use Rattle.gp_model.specs.Predict.{countsFit}
-use Rattle.gp_model.specs.Search.{advanceOf, optimizeAcquisitionOf, searchDomain}
-use Rattle.gp_model.specs.Scaling.{fromNormalizedOf, toNormalizedOf}
+use Rattle.search.specs.Predict.{countsFit}
+use Rattle.search.specs.Search.{advanceOf, optimizeAcquisitionOf, searchDomain}
+use Rattle.scaling.specs.Scaling.{fromNormalizedOf, toNormalizedOf}
 use Rattle.gp_model.specs.Statistics.{allWithin, lengthscaleOf, meanOf, varianceOf}
 use Rattle.dimensions.specs.declared.DimensionInfo.{DimensionInfo}
 use Rattle.dimensions.specs.Dimensions.{dimensionOf, dimensionOk, dimensionsOk, columnsOf}

@@ -18,9 +18,9 @@ use Rattle.common.specs.declared.RandomDraw.{RandomDraw}
 use Rattle.common.specs.Random.{sampleRandomOf}
 use Rattle.gp_model.specs.declared.Fit.{Fit}
 use Rattle.gp_model.specs.declared.Model.{Model}
-use Rattle.gp_model.specs.Earliest.{Earliest, drawnOf}
-use Rattle.gp_model.specs.Search.{scoreOf, optimizeAcquisitionOf}
-use Rattle.gp_model.proofs.Earliest.{search-earliest}
+use Rattle.search.specs.Earliest.{Earliest, drawnOf}
+use Rattle.search.specs.Search.{scoreOf, optimizeAcquisitionOf}
+use Rattle.search.proofs.Earliest.{search-earliest}
 use Rattle.dimensions.specs.declared.DimensionInfo.{DimensionInfo}
 use Rattle.history.specs.declared.Training.{Training}
 use Rattle.history_view.specs.declared.View.{View}

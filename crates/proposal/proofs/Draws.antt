@@ -11,7 +11,7 @@ use borrow.Author.Tests.{le-leb, ne-eqb}
 use Rattle.arith.specs.Lists.{padded}
 use Rattle.rng_util.specs.Generator.{movedOf}
 use Rattle.gp_model.specs.Fit.{fitOf}
-use Rattle.gp_model.specs.Search.{pointOf, drawPointOf}
+use Rattle.search.specs.Search.{pointOf, drawPointOf}
 use Rattle.history.specs.declared.Training.{Training}
 use Rattle.proposal.specs.Points.{fitFor, unitPoint, searchPoint, pointFor}
 

@@ -21,9 +21,9 @@ use Rattle.gp_model.specs.declared.Fit.{Fit}
 use Rattle.gp_model.specs.Fit.{fitDomain, refusedOf, modelOf, factoredOf, fittedOf, fitOf}
 use Rattle.gp_model.specs.Kernels.{kernelMatrixOf}
 use Rattle.gp_model.specs.Statistics.{lengthscalesOf}
-use Rattle.gp_model.specs.Predict.{countsFit}
-use Rattle.gp_model.specs.Search.{searchDomain, optimizeAcquisitionOf}
-use Rattle.gp_model.proofs.Earliest.{search-earliest}
+use Rattle.search.specs.Predict.{countsFit}
+use Rattle.search.specs.Search.{searchDomain, optimizeAcquisitionOf}
+use Rattle.search.proofs.Earliest.{search-earliest}
 use Rattle.dimensions.specs.declared.DimensionInfo.{DimensionInfo}
 use Rattle.history.specs.declared.Training.{Training}
 use Rattle.history_view.specs.declared.View.{View}

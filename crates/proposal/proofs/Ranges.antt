@@ -37,10 +37,10 @@ use Rattle.factor.specs.Cholesky.{factorOf, positive, refusedOf as refusedFacto
 use Rattle.factor.specs.Triangle.{entry, rowsOf}
 use Rattle.gp_model.specs.Fit.{fitDomain, refusedOf as refusedFit, factoredOf, fittedOf, fitOf}
 use Rattle.gp_model.specs.Kernels.{kernelMatrixOf}
-use Rattle.gp_model.specs.Scaling.{fromNormalizedOf}
-use Rattle.gp_model.specs.Search.{pointOf, optimizeAcquisitionOf}
+use Rattle.scaling.specs.Scaling.{fromNormalizedOf}
+use Rattle.search.specs.Search.{pointOf, optimizeAcquisitionOf}
 use Rattle.gp_model.specs.Statistics.{lengthscalesOf}
-use Rattle.gp_model.proofs.Earliest.{search-earliest}
+use Rattle.search.proofs.Earliest.{search-earliest}
 use Rattle.dimensions.specs.declared.DimensionInfo.{DimensionInfo}
 use Rattle.history.specs.declared.Training.{Training}
 use Rattle.history_view.specs.declared.View.{View}

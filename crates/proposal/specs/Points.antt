@@ -8,7 +8,7 @@ use Rattle.arith.specs.Lists.{padded}
 use Rattle.rng_util.specs.Generator.{movedOf}
 use Rattle.gp_model.specs.declared.Fit.{Fit}
 use Rattle.gp_model.specs.Fit.{fitOf}
-use Rattle.gp_model.specs.Search.{pointOf, optimizeAcquisitionOf}
+use Rattle.search.specs.Search.{pointOf, optimizeAcquisitionOf}
 use Rattle.history.specs.declared.Training.{Training}
 use Rattle.proposal.specs.declared.Point.{Point}
 

@@ -9,7 +9,7 @@ use Rattle.distribution.specs.declared.ParamValue.{ParamValue}
 use Rattle.common.specs.declared.RandomDraw.{RandomDraw}
 use Rattle.common.specs.Decode.{fromInternalOf}
 use Rattle.common.specs.Random.{sampleRandomOf}
-use Rattle.gp_model.specs.Scaling.{fromNormalizedOf}
+use Rattle.scaling.specs.Scaling.{fromNormalizedOf}
 use Rattle.dimensions.specs.declared.DimensionInfo.{DimensionInfo}
 use Rattle.dimensions.specs.Dimensions.{dimensionAt, continuousOf, columnsOf}
 use Rattle.dimensions.specs.declared.Stored.{Stored}

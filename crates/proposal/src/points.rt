@@ -11,7 +11,7 @@ fn unit_point(d: usize, word: u64) -> Point
     requires { ⌜ (d ≤ 20) × (0 < word) ⌝ }
     ensures { λ r. ⌜ r ≡ unitPoint d word ⌝ }
 {
-    let u = gp_model::draw_point(d, word);
+    let u = search::draw_point(d, word);
     let x = u.point;
     Point {
         x,
@@ -34,7 +34,7 @@ pub(crate) fn point_for(t: Training, noise_variance: f64, n_candidates: u64, wor
         return unit_point(d, word);
     }
     let model = fit.model;
-    let s = gp_model::optimize_acquisition(model, d, n_candidates, word);
+    let s = search::optimize_acquisition(model, d, n_candidates, word);
     let x = s.point;
     Point {
         x,

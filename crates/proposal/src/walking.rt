@@ -30,7 +30,7 @@ fn decoded(d: DimensionInfo, u: f64) -> ParamValue
     ensures { λ r. ⌜ r ≡ decodeOf d u ⌝ }
 {
     let distribution = d.distribution;
-    let x = gp_model::from_normalized(u, d.lo, d.hi);
+    let x = scaling::from_normalized(u, d.lo, d.hi);
     common::from_internal(x, distribution)
 }
 

@@ -63,7 +63,7 @@ fn is_same(a: [f64; 20], b: [f64; 20]) -> bool {
 fn score(m: Model, x: [f64; 20], d: usize) -> f64
     requires { ⌜ d ≤ 20 ⌝ }
 {
-    let p = gp_model::predict(m, &x[0..d]);
+    let p = search::predict(m, &x[0..d]);
     acquisition::expected_improvement(p.mean, p.std, m.f_best)
 }
 
@@ -71,13 +71,13 @@ fn score(m: Model, x: [f64; 20], d: usize) -> f64
 fn put_points(trial: u64, m: Model, d: usize, candidates: u64, word: u64) -> bool
     requires { ⌜ d ≤ 20 ⌝ }
 {
-    let search = gp_model::optimize_acquisition(m, d, candidates, word);
-    let best = search.point;
+    let searched = search::optimize_acquisition(m, d, candidates, word);
+    let best = searched.point;
     let mut found = false;
     let mut next = word;
     let mut i = 0;
     while i < candidates {
-        let drawn = gp_model::draw_point(d, next);
+        let drawn = search::draw_point(d, next);
         let x = drawn.point;
         let stored = !found && is_same(x, best);
         let words = point_words(trial, i, score(m, x, d), stored, x);

@@ -11,7 +11,7 @@ use Rattle.rng_util.specs.Draws.{unitOf}
 use Rattle.rng_util.specs.Generator.{streamOf}
 use Rattle.gp_model.specs.declared.Fit.{Fit}
 use Rattle.gp_model.specs.declared.Model.{Model}
-use Rattle.gp_model.specs.Search.{scoreOf}
+use Rattle.search.specs.Search.{scoreOf}
 use Rattle.history_view.specs.declared.View.{View}
 use Rattle.dimensions.specs.Dimensions.{dimensionAt, continuousOf, columnsOf}
 use Rattle.history_view.specs.View.{viewOf}

@@ -1,4 +1,4 @@
--- `generator::optimize_acquisition` meets its contract: `Draw`'s walk at `gp_model::optimize_acquisition`. All that the proof knows of that function is that it meets its contract.
+-- `generator::optimize_acquisition` meets its contract: `Draw`'s walk at `search::optimize_acquisition`. All that the proof knows of that function is that it meets its contract.
 -- Assumes nothing.
 use mathlib.Core.Path.{_≡_, refl, ap}
 use mathlib.Core.List.{[], _∷_}
@@ -15,16 +15,16 @@ use denote.Struct.Laws as LL
 use denote.Triple.Clauses.{ensured, lasts}
 use denote.Triple.Spec.{tripleOf}
 use denote.Triple.Table.{entered, cited}
-use Rattle.gp_model.specs.Search.{searchDomain, optimizeAcquisitionOf}
-use Rattle.gp_model.specs.Earliest.{Earliest}
+use Rattle.search.specs.Search.{searchDomain, optimizeAcquisitionOf}
+use Rattle.search.specs.Earliest.{Earliest}
 use Rattle.gp_model.proofs.Model as D
 use Rattle.gp_model.proofs.Model.Laws as D′
-use Rattle.gp_model.proofs.Searched as U
-use Rattle.gp_model.proofs.Searched.Laws as U′
-use Rattle.gp_model.proofs.optimize_acquisition as callee
-use Rattle.gp_model.proofs.optimize_acquisition.Symbol as callee-def
-use Rattle.gp_model.proofs.optimize_acquisition.Symbol.{name as #callee}
-use Rattle.gp_model.proofs.optimize_acquisition.Met as callee-thm
+use Rattle.search.proofs.Searched as U
+use Rattle.search.proofs.Searched.Laws as U′
+use Rattle.search.proofs.optimize_acquisition as callee
+use Rattle.search.proofs.optimize_acquisition.Symbol as callee-def
+use Rattle.search.proofs.optimize_acquisition.Symbol.{name as #callee}
+use Rattle.search.proofs.optimize_acquisition.Met as callee-thm
 use Rattle.generator.proofs.Params.{Param, u64-param, passing, left, right}
 use Rattle.generator.proofs.Draw.{Answer, meets}
 use Rattle.generator.proofs.optimize_acquisition.Key.{name as #own}
@@ -76,5 +76,5 @@ optimize-acquisition-spec 𝓤 H 𝓜 𝓖 𝓡 =
     (and-then ! (load ! (from ! (stop !)) (look-in ! 10 (right ! (left ! (left ! (whole !)))))) (
     and-then ! (load ! (from ! (stop !)) (look-in ! 10 (right ! (right ! (left ! (left ! (whole !))))))) (and-then ! (load ! (from ! (stop !)) (look ! 6 refl)) (no-more !)))))
     (tablesOf 𝓤 H 𝓜 (tables 𝓤 H 𝓜 𝓡 code.env))
-    (λ c. cited 𝓤 H (tripleOf 𝓤 H (𝓖 .A) callee.signature (callee.spec 𝓤 H (𝓖 .A) (𝓜 .mem) (𝓡 .run))) 𝓜 𝓡 code.env #callee callee-def.routine code.calls-gp-model·optimize-acquisition (callee-thm.met 𝓤 H 𝓜 𝓖 𝓡)
+    (λ c. cited 𝓤 H (tripleOf 𝓤 H (𝓖 .A) callee.signature (callee.spec 𝓤 H (𝓖 .A) (𝓜 .mem) (𝓡 .run))) 𝓜 𝓡 code.env #callee callee-def.routine code.calls-search·optimize-acquisition (callee-thm.met 𝓤 H 𝓜 𝓖 𝓡)
     ((tt, tt, tt, c, passing 0 tt (model ∷ u64-param ∷ u64-param ∷ u64-param ∷ []) c), tt)))

@@ -1,12 +1,12 @@
 -- `gp_model::kernels::kernel_matrix` meets its contract: before each turn the array holds the rows passed. Assumes nothing.
 use Prim.Native.Nat.{_-_, _≤_}
 use mathlib.Core.Path.{_≡_, refl}
+use native.Mathlib.Nat.{suc-mul, mul-le-mul-right}
 use native.Mathlib.Omega.{arith}
 use lib.Ieee.{ofBits}
 use Rattle.arith.specs.Lists.{padded}
 use Rattle.factor.specs.Triangle.{rowsOf}
 use Rattle.gp_model.specs.Kernels.{covarianceOf}
-use Rattle.lanes.proofs.KernelRow.{row-end}
 use borrow.Author.Needs.{needs}
 use Rattle.gp_model.proofs.kernels.kernel_matrix.Statement.{statement}
 use Rattle.gp_model.proofs.kernels.kernel_matrix.Tie as tie
@@ -25,7 +25,7 @@ kernel-row-requires : tie.Need-kernel-row-requires Inv-loop μ-loop
 kernel-row-requires c κs =
     let a = c .before .before .before .before .before in
     let l = c .before .before .loop in
-    let k = row-end (l .i) (a .args .n) (a .args .d) (c .before .loop-test .taken) in
+    let k = rw (suc-mul (l .i) (a .args .d)) at (mul-le-mul-right (a .args .d) (c .before .loop-test .taken)) in
     (omega arith, omega arith, a .pre .2, l .inv .1)
 
 add-i : tie.Need-add-i Inv-loop μ-loop

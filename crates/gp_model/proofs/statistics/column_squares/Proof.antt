@@ -3,12 +3,12 @@ use Prim.Native.Nat.{_+_, _*_, _-_, _≤_, _<_}
 use mathlib.Core.Path.{_≡_, refl}
 use native.Mathlib.Numerals.{add-one}
 use native.Mathlib.Omega.{arith}
+use lib.Arith.{digits-lt}
 use lib.ListN.{length}
 use lib.Ieee.{binary64, sub}
 use Rattle.arith.specs.Sums.{sumOver}
 use Rattle.kernel.specs.Matern.{square}
 use Rattle.gp_model.specs.Statistics.{columnOf}
-use Rattle.lanes.proofs.KernelRow.{row-end}
 use Rattle.gp_model.proofs.Table.{table-small}
 use borrow.Author.Needs.{needs}
 use Rattle.gp_model.proofs.statistics.column_squares.Statement.{statement}
@@ -24,7 +24,7 @@ abbrev μ-loop : tie.MeasureT-loop
 cell : (c : tie.In-loop Inv-loop μ-loop) → (c .before .loop .i * c .before .before .args .d + c .before .before .args .j < length (c .before .before .args .x .now)) × (length (c .before .before .args .x .now) ≤ 2000)
 cell c =
     let a = c .before .before in
-    let k = row-end (c .before .loop .i) (a .args .n) (a .args .d) (c .loop-test .taken) in
+    let k = digits-lt (c .loop-test .taken) (a .pre .0) in
     let s = table-small (a .args .n) (a .args .d) (a .pre .1) (a .pre .2) in
     (omega arith, omega arith)
 

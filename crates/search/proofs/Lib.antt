@@ -1,0 +1,5 @@
+pub mod Beside
+mod Cases
+pub mod Domain
+pub mod Earliest
+pub mod LaneScores

@@ -1,0 +1,4 @@
+pub mod Earliest
+pub mod Eights
+pub mod Predict
+pub mod Search
