@@ -3,19 +3,16 @@ ghost use mathlib.Core.Path.{_≡_};
 ghost use mathlib.Core.List.{List};
 ghost use Prim.Native.Nat.{ℕ, min};
 ghost use lib.ListN.{length, take};
-ghost use Rattle.propose_text.specs.Steps.{readingOf, steppedOf, awaits, ends, named, settingsLine, rowLine, historyLine, callLine, historyNamed, answeredOf, startOf, stepOf, finishAt, finishOf};
-ghost use Rattle.propose_text.specs.declared.Stage.{Stage};
-use crate::Event;
-use crate::Reader;
-use crate::Stage;
-use crate::Step;
-use crate::answers;
-use crate::lines;
-use crate::names;
+ghost use Rattle.text_laws.specs.Steps.{readingOf, steppedOf, awaits, ends, named, settingsLine, rowLine, historyLine, callLine, historyNamed, answeredOf, startOf, stepOf, finishAt, finishOf};
+ghost use Rattle.text_laws.specs.declared.Stage.{Stage};
 use distribution::ParamValue;
 use sampler::Sampled;
 use sampler_state::Sampler;
 use settings::Settings;
+use text_laws::Event;
+use text_laws::Reader;
+use text_laws::Stage;
+use text_laws::Step;
 
 // Another line is awaited, and nothing is written.
 fn awaiting(stage: Stage, event: Event, sampler: Sampler, count: usize) -> Step
@@ -45,7 +42,7 @@ fn ending(number: u64, sampler: Sampler, count: usize) -> Step
         },
         event: Event::Refused(number),
         len: 68,
-        bytes: answers::answer_line(0, 0, number, 0),
+        bytes: propose_lines::answer_line(0, 0, number, 0),
     }
 }
 
@@ -66,7 +63,7 @@ fn settings_line(r: Reader, line: &[u8]) -> Step
 {
     let sampler = r.sampler;
     let mut words = [0u64; 5];
-    if !lines::read_words(line, 5, &mut words, 0) {
+    if !propose_lines::read_words(line, 5, &mut words, 0) {
         return ending(14, sampler, r.count);
     }
     let made = sampler_state::build(Settings {
@@ -88,7 +85,7 @@ fn has_history_names(sampler: Sampler, line: &[u8]) -> bool
     ensures { λ r. ⌜ r ≡ historyNamed sampler (now (line .entry)) ⌝ }
 {
     let settings = sampler.settings;
-    settings.slots <= 20 && names::is_history(line, settings.slots)
+    settings.slots <= 20 && propose_lines::is_history(line, settings.slots)
 }
 
 // How many of the array's words are the history's.
@@ -114,7 +111,7 @@ fn row_line(r: Reader, line: &[u8], history: &mut [u64]) -> Step
     if at + k > 8192 {
         return ending(14, sampler, at);
     }
-    if !lines::read_words(line, k, history, at) {
+    if !propose_lines::read_words(line, k, history, at) {
         return ending(14, sampler, at);
     }
     awaiting(Stage::History, Event::Row, sampler, at + k)
@@ -125,7 +122,7 @@ fn history_line(r: Reader, line: &[u8], history: &mut [u64]) -> Step
     requires { ⌜ length (now history) ≡ 8192 ⌝ }
     ensures { λ t. ⌜ steppedOf t (now (history .exit)) ≡ historyLine (readingOf r (now (history .entry))) (now (line .entry)) ⌝ }
 {
-    if names::is_calls(line) {
+    if propose_lines::is_calls(line) {
         let sampler = r.sampler;
         return awaiting(Stage::Calls, Event::CallsBegin, sampler, r.count);
     }
@@ -146,7 +143,7 @@ fn answered(trial: u64, a: Sampled, count: usize) -> Step
         },
         event: Event::Call,
         len: 68,
-        bytes: answers::answer_line(
+        bytes: propose_lines::answer_line(
             trial,
             distribution::kind(value),
             distribution::word(value),
@@ -163,7 +160,7 @@ fn call_line(r: Reader, line: &[u8], history: &[u64]) -> Step
     let sampler = r.sampler;
     let n = held(r.count);
     let mut words = [0u64; 7];
-    if !lines::read_words(line, 7, &mut words, 0) {
+    if !propose_lines::read_words(line, 7, &mut words, 0) {
         return ending(14, sampler, r.count);
     }
     let a = sampler::sample(
@@ -206,7 +203,7 @@ pub fn read_line(r: Reader, line: &[u8], history: &mut [u64; 8192]) -> Step
     let stage = r.stage;
     let sampler = r.sampler;
     match stage {
-        Stage::SettingsNames => after_names(names::is_settings(line), Stage::Settings, r),
+        Stage::SettingsNames => after_names(propose_lines::is_settings(line), Stage::Settings, r),
         Stage::Settings => settings_line(r, line),
         Stage::HistoryNames => after_names(has_history_names(sampler, line), Stage::History, r),
         Stage::History => history_line(r, line, history),

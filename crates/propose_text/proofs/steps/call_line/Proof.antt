@@ -7,9 +7,10 @@ use native.Mathlib.Omega.{arith}
 use borrow.Author.Tests.{not-true, not-false}
 use native.Mathlib.Nat.{sub-zero}
 use lib.ListN.{length, take, getD}
-use Rattle.propose_text.specs.Lines.{isWords, wordsIn}
-use Rattle.propose_text.specs.Steps.{readingOf, sampledOf, callLine}
-use Rattle.propose_text.proofs.Words.{read-at, held-part}
+use Rattle.text_laws.specs.Lines.{isWords, wordsIn}
+use Rattle.text_laws.specs.Steps.{readingOf, sampledOf, callLine}
+use Rattle.text_laws.proofs.Words.{read-at}
+use Rattle.propose_text.proofs.Held.{held-part}
 use borrow.Author.Needs.{needs}
 use Rattle.propose_text.proofs.steps.call_line.Statement.{statement}
 use Rattle.propose_text.proofs.steps.call_line.Tie as tie

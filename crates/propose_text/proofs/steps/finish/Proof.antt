@@ -1,5 +1,5 @@
 -- `propose_text::steps::finish` meets its contract. Assumes nothing.
-use Rattle.propose_text.specs.Steps.{finishOf}
+use Rattle.text_laws.specs.Steps.{finishOf}
 use borrow.Author.Needs.{needs}
 use Rattle.propose_text.proofs.steps.finish.Statement.{statement}
 use Rattle.propose_text.proofs.steps.finish.Tie as tie

@@ -2,9 +2,9 @@
 use Prim.Native.Nat.{ℕ}
 use mathlib.Core.Path.{_≡_, sym, ap, _∙_}
 use mathlib.Core.List.{List}
-use Rattle.propose_text.specs.declared.Reader.{Reader}
-use Rattle.propose_text.specs.declared.Stage.{Stage}
-use Rattle.propose_text.specs.Steps.{readingOf, lineAt, stepOf}
+use Rattle.text_laws.specs.declared.Reader.{Reader}
+use Rattle.text_laws.specs.declared.Stage.{Stage}
+use Rattle.text_laws.specs.Steps.{readingOf, lineAt, stepOf}
 use borrow.Author.Needs.{needs}
 use Rattle.propose_text.proofs.steps.read_line.Statement.{statement}
 use Rattle.propose_text.proofs.steps.read_line.Tie as tie

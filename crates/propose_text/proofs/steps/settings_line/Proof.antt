@@ -3,9 +3,9 @@ use mathlib.Core.Path.{_≡_, sym, _∙_}
 use mathlib.Core.Bool.{true}
 use borrow.Author.Tests.{eq-eqb, ne-eqb, not-true, not-false}
 use Rattle.sampler_state.specs.State.{makeOf}
-use Rattle.propose_text.specs.Lines.{isWords, wordsIn}
-use Rattle.propose_text.specs.Steps.{settingsOf, settingsLine}
-use Rattle.propose_text.proofs.Words.{read-at}
+use Rattle.text_laws.specs.Lines.{isWords, wordsIn}
+use Rattle.text_laws.specs.Steps.{settingsOf, settingsLine}
+use Rattle.text_laws.proofs.Words.{read-at}
 use native.Mathlib.Omega.{arith}
 use borrow.Author.Needs.{needs}
 use Rattle.propose_text.proofs.steps.settings_line.Statement.{statement}
