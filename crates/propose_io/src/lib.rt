@@ -4,9 +4,9 @@ mod scores;
 
 ghost use Prim.Native.Nat.{_+_, _≤_};
 ghost use lib.ListN.{length};
-use propose_text::Reader;
-use propose_text::Stage;
-use propose_text::Step;
+use text_laws::Reader;
+use text_laws::Stage;
+use text_laws::Step;
 
 // Between two reads: the reader, how many bytes of a line are held, how many of the text are left, and whether to read on.
 struct Held {
@@ -222,7 +222,7 @@ fn run(points: bool, limit: u64) -> u64
 pub fn run_text(limit: u64) -> u64
     ensures { λ r. ⌜ r ≤ limit ⌝ }
 {
-    let names = propose_text::names_line();
+    let names = propose_lines::names_line();
     if !put(&names) {
         return limit;
     }

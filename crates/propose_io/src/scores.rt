@@ -3,9 +3,9 @@ ghost use Prim.Native.Nat.{_+_, _≤_};
 ghost use lib.ListN.{length};
 use gp_model::Fit;
 use gp_model::Model;
-use propose_text::Reader;
-use propose_text::Step;
 use sampler_state::Sampler;
+use text_laws::Reader;
+use text_laws::Step;
 use word_text::Parsed;
 
 // Puts the digits of w and the byte after them into the line, from `at` on.

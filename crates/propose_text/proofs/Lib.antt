@@ -1,10 +1,1 @@
-mod AnswerLine
-mod Bytes
-mod Cases
-mod Cut
-mod LineWords
-mod LongLines
-mod SlotNames
-mod Tables
-mod TextLaws
-mod Words
+mod Held

@@ -1,21 +1,20 @@
 // One line after the other.
 ghost use mathlib.Core.Path.{_≡_};
+ghost use mathlib.Core.Bool.{cond};
 ghost use mathlib.Core.List.{List};
 ghost use Prim.Native.Nat.{ℕ, min};
 ghost use lib.ListN.{length, take};
-ghost use Rattle.propose_text.specs.Steps.{readingOf, steppedOf, awaits, ends, named, settingsLine, rowLine, historyLine, callLine, historyNamed, answeredOf, startOf, stepOf, finishAt, finishOf};
-ghost use Rattle.propose_text.specs.declared.Stage.{Stage};
-use crate::Event;
-use crate::Reader;
-use crate::Stage;
-use crate::Step;
-use crate::answers;
-use crate::lines;
-use crate::names;
+ghost use Rattle.text_laws.specs.Steps.{Reading, readingOf, steppedOf, awaits, ends, named, settingsOf, settingsLine, rowLine, historyLine, callLine, historyNamed, sampledOf, answeredOf, startOf, stepOf, finishAt, finishOf};
+ghost use Rattle.text_laws.specs.declared.Event.{Event};
+ghost use Rattle.text_laws.specs.declared.Stage.{Stage};
 use distribution::ParamValue;
 use sampler_laws::Sampled;
 use sampler_state::Sampler;
 use settings::Settings;
+use text_laws::Event;
+use text_laws::Reader;
+use text_laws::Stage;
+use text_laws::Step;
 
 // Another line is awaited, and nothing is written.
 fn awaiting(stage: Stage, event: Event, sampler: Sampler, count: usize) -> Step
@@ -45,7 +44,7 @@ fn ending(number: u64, sampler: Sampler, count: usize) -> Step
         },
         event: Event::Refused(number),
         len: 68,
-        bytes: answers::answer_line(0, 0, number, 0),
+        bytes: propose_lines::answer_line(0, 0, number, 0),
     }
 }
 
@@ -60,22 +59,29 @@ fn after_names(ok: bool, stage: Stage, r: Reader) -> Step
     ending(14, sampler, r.count)
 }
 
+// The settings that five words are.
+fn settings_of(words: [u64; 5]) -> Settings
+    ensures { λ r. ⌜ r ≡ settingsOf words ⌝ }
+{
+    Settings {
+        n_startup_trials: words[0],
+        n_candidates: words[1],
+        noise_variance: arith::float_of_word(words[2]),
+        seed: words[3],
+        slots: words[4],
+    }
+}
+
 // The line of the settings: a sampler is made of them.
 fn settings_line(r: Reader, line: &[u8]) -> Step
     ensures { λ t. ⌜ ((h : List ℕ) → steppedOf t h ≡ settingsLine (readingOf r h) (now (line .entry))) ⌝ }
 {
     let sampler = r.sampler;
     let mut words = [0u64; 5];
-    if !lines::read_words(line, 5, &mut words, 0) {
+    if !propose_lines::read_words(line, 5, &mut words, 0) {
         return ending(14, sampler, r.count);
     }
-    let made = sampler_state::build(Settings {
-        n_startup_trials: words[0],
-        n_candidates: words[1],
-        noise_variance: arith::float_of_word(words[2]),
-        seed: words[3],
-        slots: words[4],
-    });
+    let made = sampler_state::build(settings_of(words));
     if made.number != 0 {
         return ending(made.number, sampler, r.count);
     }
@@ -83,12 +89,13 @@ fn settings_line(r: Reader, line: &[u8]) -> Step
     awaiting(Stage::HistoryNames, Event::Settings, fresh, r.count)
 }
 
-// Whether a line has the history's names for this sampler.
-fn has_history_names(sampler: Sampler, line: &[u8]) -> bool
-    ensures { λ r. ⌜ r ≡ historyNamed sampler (now (line .entry)) ⌝ }
+// Whether a line has the history's names for the sampler.
+fn has_history_names(r: Reader, line: &[u8]) -> bool
+    ensures { λ ok. ⌜ ok ≡ historyNamed (r .sampler) (now (line .entry)) ⌝ }
 {
+    let sampler = r.sampler;
     let settings = sampler.settings;
-    settings.slots <= 20 && names::is_history(line, settings.slots)
+    settings.slots <= 20 && propose_lines::is_history(line, settings.slots)
 }
 
 // How many of the array's words are the history's.
@@ -114,7 +121,7 @@ fn row_line(r: Reader, line: &[u8], history: &mut [u64]) -> Step
     if at + k > 8192 {
         return ending(14, sampler, at);
     }
-    if !lines::read_words(line, k, history, at) {
+    if !propose_lines::read_words(line, k, history, at) {
         return ending(14, sampler, at);
     }
     awaiting(Stage::History, Event::Row, sampler, at + k)
@@ -125,7 +132,7 @@ fn history_line(r: Reader, line: &[u8], history: &mut [u64]) -> Step
     requires { ⌜ length (now history) ≡ 8192 ⌝ }
     ensures { λ t. ⌜ steppedOf t (now (history .exit)) ≡ historyLine (readingOf r (now (history .entry))) (now (line .entry)) ⌝ }
 {
-    if names::is_calls(line) {
+    if propose_lines::is_calls(line) {
         let sampler = r.sampler;
         return awaiting(Stage::Calls, Event::CallsBegin, sampler, r.count);
     }
@@ -146,7 +153,7 @@ fn answered(trial: u64, a: Sampled, count: usize) -> Step
         },
         event: Event::Call,
         len: 68,
-        bytes: answers::answer_line(
+        bytes: propose_lines::answer_line(
             trial,
             distribution::kind(value),
             distribution::word(value),
@@ -155,18 +162,13 @@ fn answered(trial: u64, a: Sampled, count: usize) -> Step
     }
 }
 
-// A call on the sampler.
-fn call_line(r: Reader, line: &[u8], history: &[u64]) -> Step
+// What the sampler answers to the seven words of a call.
+fn called(sampler: Sampler, words: [u64; 7], history: &[u64], count: usize) -> Sampled
     requires { ⌜ length (now history) ≡ 8192 ⌝ }
-    ensures { λ t. ⌜ steppedOf t (now (history .entry)) ≡ callLine (readingOf r (now (history .entry))) (now (line .entry)) ⌝ }
+    ensures { λ a. ⌜ a ≡ sampledOf (readingOf (record { stage = Stage.Calls; sampler = sampler; count = count }) (now (history .entry))) words ⌝ }
 {
-    let sampler = r.sampler;
-    let n = held(r.count);
-    let mut words = [0u64; 7];
-    if !lines::read_words(line, 7, &mut words, 0) {
-        return ending(14, sampler, r.count);
-    }
-    let a = sampler::sample(
+    let n = held(count);
+    sampler::sample(
         sampler,
         words[1],
         words[2],
@@ -176,7 +178,20 @@ fn call_line(r: Reader, line: &[u8], history: &[u64]) -> Step
         words[6],
         words[0],
         &history[0..n],
-    );
+    )
+}
+
+// A call on the sampler.
+fn call_line(r: Reader, line: &[u8], history: &[u64]) -> Step
+    requires { ⌜ length (now history) ≡ 8192 ⌝ }
+    ensures { λ t. ⌜ steppedOf t (now (history .entry)) ≡ callLine (readingOf r (now (history .entry))) (now (line .entry)) ⌝ }
+{
+    let sampler = r.sampler;
+    let mut words = [0u64; 7];
+    if !propose_lines::read_words(line, 7, &mut words, 0) {
+        return ending(14, sampler, r.count);
+    }
+    let a = called(sampler, words, history, r.count);
     answered(words[0], a, r.count)
 }
 
@@ -204,26 +219,31 @@ pub fn read_line(r: Reader, line: &[u8], history: &mut [u64; 8192]) -> Step
     ensures { λ t. ⌜ steppedOf t (now (history .exit)) ≡ stepOf (readingOf r (now (history .entry))) (now (line .entry)) ⌝ }
 {
     let stage = r.stage;
-    let sampler = r.sampler;
     match stage {
-        Stage::SettingsNames => after_names(names::is_settings(line), Stage::Settings, r),
+        Stage::SettingsNames => after_names(propose_lines::is_settings(line), Stage::Settings, r),
         Stage::Settings => settings_line(r, line),
-        Stage::HistoryNames => after_names(has_history_names(sampler, line), Stage::History, r),
+        Stage::HistoryNames => after_names(has_history_names(r, line), Stage::History, r),
         Stage::History => history_line(r, line, history),
         Stage::Calls => call_line(r, line, history),
-        Stage::Ended => awaiting(Stage::Ended, Event::Nothing, sampler, r.count),
+        Stage::Ended => {
+            let sampler = r.sampler;
+            awaiting(Stage::Ended, Event::Nothing, sampler, r.count)
+        }
     }
 }
 
-// The end of the calls, with what stands after the last newline.
-fn after_calls(r: Reader, rest: &[u8]) -> Step
-    ensures { λ t. ⌜ ((h : List ℕ) → steppedOf t h ≡ finishAt Stage.Calls (readingOf r h) (now (rest .entry))) ⌝ }
+// Whether a text may end where this line is awaited, with what stands after its last newline.
+fn may_end(stage: Stage, rest: &[u8]) -> bool
+    ensures { λ ok. ⌜ ((r : Reading) → finishAt stage r (now (rest .entry)) ≡ cond ok (awaits Stage.Ended Event.Nothing r) (ends 14 r)) ⌝ }
 {
-    let sampler = r.sampler;
-    if rest.len() == 0 {
-        return awaiting(Stage::Ended, Event::Nothing, sampler, r.count);
+    match stage {
+        Stage::SettingsNames => false,
+        Stage::Settings => false,
+        Stage::HistoryNames => false,
+        Stage::History => false,
+        Stage::Calls => rest.len() == 0,
+        Stage::Ended => true,
     }
-    ending(14, sampler, r.count)
 }
 
 // The end of the input, with what stands after its last newline.
@@ -232,12 +252,8 @@ pub fn finish(r: Reader, rest: &[u8]) -> Step
 {
     let stage = r.stage;
     let sampler = r.sampler;
-    match stage {
-        Stage::SettingsNames => ending(14, sampler, r.count),
-        Stage::Settings => ending(14, sampler, r.count),
-        Stage::HistoryNames => ending(14, sampler, r.count),
-        Stage::History => ending(14, sampler, r.count),
-        Stage::Calls => after_calls(r, rest),
-        Stage::Ended => awaiting(Stage::Ended, Event::Nothing, sampler, r.count),
+    if may_end(stage, rest) {
+        return awaiting(Stage::Ended, Event::Nothing, sampler, r.count);
     }
+    ending(14, sampler, r.count)
 }

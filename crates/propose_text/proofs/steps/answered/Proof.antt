@@ -1,5 +1,5 @@
 -- `propose_text::steps::answered` meets its contract. Assumes nothing.
-use Rattle.propose_text.proofs.AnswerLine.{whole-line}
+use Rattle.propose_lines.proofs.AnswerLine.{whole-line}
 use borrow.Author.Needs.{needs}
 use Rattle.propose_text.proofs.steps.answered.Statement.{statement}
 use Rattle.propose_text.proofs.steps.answered.Tie as tie

@@ -1,6 +1,6 @@
 -- `propose_text::steps::history_line` meets its contract. Assumes nothing.
 use mathlib.Core.Path.{sym, _∙_}
-use Rattle.propose_text.specs.Steps.{historyLine}
+use Rattle.text_laws.specs.Steps.{historyLine}
 use borrow.Author.Needs.{needs}
 use Rattle.propose_text.proofs.steps.history_line.Statement.{statement}
 use Rattle.propose_text.proofs.steps.history_line.Tie as tie

@@ -2,9 +2,9 @@
 use Prim.Native.Nat.{ℕ}
 use mathlib.Core.Path.{_≡_, sym, ap, _∙_}
 use mathlib.Core.List.{List}
-use Rattle.propose_text.specs.declared.Reader.{Reader}
-use Rattle.propose_text.specs.declared.Stage.{Stage}
-use Rattle.propose_text.specs.Steps.{readingOf, lineAt, stepOf}
+use Rattle.text_laws.specs.declared.Reader.{Reader}
+use Rattle.text_laws.specs.declared.Stage.{Stage}
+use Rattle.text_laws.specs.Steps.{readingOf, lineAt, stepOf}
 use borrow.Author.Needs.{needs}
 use Rattle.propose_text.proofs.steps.read_line.Statement.{statement}
 use Rattle.propose_text.proofs.steps.read_line.Tie as tie
@@ -58,38 +58,38 @@ served r h line e = ap (λ (s : Stage). lineAt s (readingOf r h) line) (sym e)
 returns : tie.Need-returns
 unfolding stepOf
 returns c =
-    let a = c .before .before .before .before .before .before .args in
+    let a = c .before .before .before .before .before .args in
     rw (c .before .is-settings .ensures) at (c .after-names .ensures (a .history .now)) ∙ served (a .r) (a .history .now) (a .line .now) (c .before .before .enum-told .given .1)
 
 returns-2 : tie.Need-returns-2
 unfolding stepOf
 returns-2 c =
-    let a = c .before .before .before .before .before .args in
+    let a = c .before .before .before .before .args in
     c .settings-line .ensures (a .history .now) ∙ served (a .r) (a .history .now) (a .line .now) (c .before .enum-told2 .given .1)
 
 returns-3 : tie.Need-returns-3
 unfolding stepOf
 returns-3 c =
-    let a = c .before .before .before .before .before .before .args in
+    let a = c .before .before .before .before .before .args in
     rw (c .before .has-history-names .ensures) at (c .after-names2 .ensures (a .history .now)) ∙ served (a .r) (a .history .now) (a .line .now) (c .before .before .enum-told3 .given .1)
 
 returns-4 : tie.Need-returns-4
 unfolding stepOf
 returns-4 c =
-    let a = c .before .before .before .before .before .before .args in
+    let a = c .before .before .before .before .before .args in
     c .history-line .ensures ∙ served (a .r) (a .history .now) (a .line .now) (c .before .before .enum-told4 .given .1)
 
 returns-5 : tie.Need-returns-5
 unfolding stepOf
 returns-5 c =
-    let a = c .before .before .before .before .before .before .before .args in
+    let a = c .before .before .before .before .before .before .args in
     c .call-line .ensures ∙ served (a .r) (a .history .now) (a .line .now) (c .before .before .before .enum-told5 .given .1)
 
 returns-6 : tie.Need-returns-6
 unfolding stepOf
 returns-6 c =
     let a = c .before .before .before .before .before .args in
-    c .awaiting .ensures (a .history .now) ∙ served (a .r) (a .history .now) (a .line .now) (c .before .enum-told6 .given .1)
+    c .awaiting .ensures (a .history .now) ∙ served (a .r) (a .history .now) (a .line .now) (c .before .before .enum-told6 .given .1)
 
 pub read-line-spec : {M : Type 1} → statement M
 read-line-spec =

@@ -4,8 +4,10 @@ use mathlib.Core.Path.{_≡_, sym, _∙_}
 use native.Mathlib.Omega.{arith}
 use borrow.Author.Tests.{le-leb, lt-leb, not-true, not-false}
 use lib.ListN.{length, take}
-use Rattle.propose_text.specs.Steps.{slotsOf, rowWords, rowLine}
-use Rattle.propose_text.proofs.Words.{held-part, held-length}
+use Rattle.text_laws.specs.Lines.{isWords}
+use Rattle.text_laws.specs.Steps.{slotsOf, rowWords, rowLine}
+use Rattle.propose_lines.proofs.Stored.{room-for}
+use Rattle.propose_text.proofs.Held.{held-part, held-length}
 use borrow.Author.Needs.{needs}
 use Rattle.propose_text.proofs.steps.row_line.Statement.{statement}
 use Rattle.propose_text.proofs.steps.row_line.Tie as tie
@@ -57,6 +59,15 @@ returns-2 c =
 read-words-requires : tie.Need-read-words-requires
 read-words-requires c κs = search needs
 
+-- the array has room for a row, so what is read is whether the line is one
+read : (c : tie.After-read-words) → let a = c .before .before .before .before .before .before .before .before .before .args in isWords (rowWords (slotsOf (a .r .sampler))) (a .line .now) ≡ c .read-words .result
+read c =
+    let f = c .before .before .before .before in
+    let a = f .before .before .before .before .before .args in
+    let l = long f in
+    let room = room-for (rowWords (slotsOf (a .r .sampler))) (f .held .result) (length (a .history .now)) (omega arith) (omega arith) (omega arith) in
+    sym (rw room at (c .read-words .ensures .is))
+
 ending-requires-3 : tie.Need-ending-requires-3
 ending-requires-3 c κs = search needs
 
@@ -70,7 +81,7 @@ returns-3 c =
     let f = w .before .before .before .before in
     let a = f .before .before .before .before .before .args in
     let l = held-long f in
-    let no = sym (w .read-words .ensures .is) ∙ not-true (w .read-words .result) (c .before .if3 .taken) in
+    let no = read w ∙ not-true (w .read-words .result) (c .before .if3 .taken) in
     rw (le-leb (slotsOf (a .r .sampler)) 20 (w .before .before .before .if1 .left), le-leb (length (take (a .r .count) (a .history .now)) + rowWords (slotsOf (a .r .sampler))) 8192 (omega arith), no)
     (rw (w .read-words .ensures .kept, held-same f) at (c .ending3 .ensures (w .read-words .last .1 .1 .0)))
 
@@ -91,7 +102,7 @@ returns-4 c =
     let a = f .before .before .before .before .before .args in
     let l = held-long f in
     let ok = not-false (w .read-words .result) (c .before .if3 .left) in
-    rw (le-leb (slotsOf (a .r .sampler)) 20 (w .before .before .before .if1 .left), le-leb (length (take (a .r .count) (a .history .now)) + rowWords (slotsOf (a .r .sampler))) 8192 (omega arith), sym (w .read-words .ensures .is) ∙ ok)
+    rw (le-leb (slotsOf (a .r .sampler)) 20 (w .before .before .before .if1 .left), le-leb (length (take (a .r .count) (a .history .now)) + rowWords (slotsOf (a .r .sampler))) 8192 (omega arith), read w ∙ ok)
     (rw (w .read-words .ensures .read ok, held-same f) at (c .awaiting .ensures (w .read-words .last .1 .1 .0)))
 
 pub row-line-spec : {M : Type 1} → statement M

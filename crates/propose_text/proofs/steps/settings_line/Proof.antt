@@ -1,12 +1,12 @@
 -- `propose_text::steps::settings_line` meets its contract. Assumes nothing.
 use mathlib.Core.Path.{_≡_, sym, _∙_}
 use mathlib.Core.Bool.{true}
+use native.Mathlib.Omega.{arith}
 use borrow.Author.Tests.{eq-eqb, ne-eqb, not-true, not-false}
 use Rattle.sampler_state.specs.State.{makeOf}
-use Rattle.propose_text.specs.Lines.{isWords, wordsIn}
-use Rattle.propose_text.specs.Steps.{settingsOf, settingsLine}
-use Rattle.propose_text.proofs.Words.{read-at}
-use native.Mathlib.Omega.{arith}
+use Rattle.text_laws.specs.Lines.{isWords, wordsIn}
+use Rattle.text_laws.specs.Steps.{settingsOf, settingsLine}
+use Rattle.text_laws.proofs.Words.{read-at}
 use borrow.Author.Needs.{needs}
 use Rattle.propose_text.proofs.steps.settings_line.Statement.{statement}
 use Rattle.propose_text.proofs.steps.settings_line.Tie as tie
@@ -24,23 +24,8 @@ returns : tie.Need-returns
 unfolding settingsLine
 returns c h = rw (sym (c .before .before .before .read-words .ensures .is) ∙ not-true _ (c .before .if1 .taken)) (c .ending .ensures h)
 
-array-read-t13 : tie.Need-array-read-t13
-array-read-t13 c = search needs
-
-array-read-t16 : tie.Need-array-read-t16
-array-read-t16 c = search needs
-
-array-read-float-of-word : tie.Need-array-read-float-of-word
-array-read-float-of-word c = search needs
-
-float-of-word-requires : tie.Need-float-of-word-requires
-float-of-word-requires c κs = search needs
-
-array-read-t23 : tie.Need-array-read-t23
-array-read-t23 c = search needs
-
-array-read-t26 : tie.Need-array-read-t26
-array-read-t26 c = search needs
+settings-of-requires : tie.Need-settings-of-requires
+settings-of-requires c κs = search needs
 
 build-requires : tie.Need-build-requires
 build-requires c κs = search needs
@@ -59,7 +44,7 @@ made c =
     let line = g .before .before .before .before .before .before .args .line .now in
     let r = g .before .before .read-words in
     let w = read-at 5 (r .last .1 .1 .0) line (r .ensures .read (not-false _ (g .if1 .left))) in
-    sym (rw (c .before .float-of-word .ensures, w 0 (omega arith), w 1 (omega arith), w 2 (omega arith), w 3 (omega arith), w 4 (omega arith)) at (c .build .ensures))
+    sym (rw (c .before .settings-of .ensures, w 0 (omega arith), w 1 (omega arith), w 2 (omega arith), w 3 (omega arith), w 4 (omega arith)) at (c .build .ensures))
 
 returns-2 : tie.Need-returns-2
 unfolding settingsLine
@@ -79,21 +64,4 @@ returns-3 c h =
     rw (words-there g, made b, eq-eqb _ 0 (c .before .before .if2 .left)) (c .awaiting .ensures h)
 
 pub settings-line-spec : {M : Type 1} → statement M
-settings-line-spec =
-    tie.close
-    (tie.spec
-    slice-aggregate-read-words
-    read-words-requires
-    ending-requires
-    returns
-    array-read-t13
-    array-read-t16
-    array-read-float-of-word
-    float-of-word-requires
-    array-read-t23
-    array-read-t26
-    build-requires
-    ending-requires-2
-    returns-2
-    awaiting-requires
-    returns-3)
+settings-line-spec = tie.close (tie.spec slice-aggregate-read-words read-words-requires ending-requires returns settings-of-requires build-requires ending-requires-2 returns-2 awaiting-requires returns-3)

@@ -8,8 +8,8 @@ use Rattle.settings.specs.declared.Settings.{Settings}
 use Rattle.settings.specs.Settings.{settingsOk}
 use Rattle.sampler_state.specs.declared.Made.{Made}
 use Rattle.sampler_state.specs.State.{makeOf, noSampler}
-use Rattle.propose_text.specs.declared.Stage.{Stage}
-use Rattle.propose_text.specs.Steps.{Reading, startOf}
+use Rattle.text_laws.specs.declared.Stage.{Stage}
+use Rattle.text_laws.specs.Steps.{Reading, startOf}
 use Rattle.propose_text.proofs.steps.start.Statement.{statement}
 use Rattle.propose_text.proofs.steps.start.Tie as tie
 

@@ -1,0 +1,3 @@
+pub mod AnswerLine
+mod SlotNames
+pub mod Stored
