@@ -12,10 +12,11 @@ use Rattle.arith.specs.declared.Outcome.{Outcome}
 use Rattle.arith.specs.declared.Outcome.the-variants.{Value}
 use Rattle.arith.specs.Bounds.{abs, real, negative, Sign}
 use Rattle.arith.specs.Choice.{positivePart}
-use Rattle.arith.specs.Exp.{expOf}
+use Rattle.exponential.specs.Exp.{expOf}
 use Rattle.arith.specs.Outcome.{made, pick, valueOf}
 use Rattle.arith.proofs.ChoiceLaws.{positive-part, positive-part-real}
-use Rattle.arith.proofs.Accepted.{Accepted, accepted-value, exp-accepted, made-accepted, pick-accepted}
+use Rattle.arith.proofs.Accepted.{Accepted, accepted-value, made-accepted, pick-accepted}
+use Rattle.exponential.proofs.ExpLaws.{exp-accepted}
 use Rattle.arith.proofs.Sign.{sign-round}
 use Rattle.arith.proofs.Within.{negative-round}
 use Rattle.acquisition.specs.Accepts.{ImprovementAccepts}

@@ -2,7 +2,7 @@
 use mathlib.Core.Path.{_≡_, refl}
 use lib.IntN.{pos, negsuc}
 use lib.Ieee.{binary64, ofBits, toBits, round, add, sub, mul, div, neg, lt, le, isNan, ofInt, toSigned}
-use Rattle.arith.specs.Exp.{expOf, hornerOf, reducedOf, scaledOf, wholeOf}
+use Rattle.exponential.specs.Exp.{expOf, hornerOf, reducedOf, scaledOf, wholeOf}
 use Rattle.arith.specs.Rounding.{nearestOf, roundOf}
 use Rattle.arith.specs.Outcome.{wordOf}
 use Rattle.acquisition.specs.Normal.{normPdfOf, polynomialOf, upperOf, normCdfOf}

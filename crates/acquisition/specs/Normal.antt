@@ -5,7 +5,7 @@ use lib.Ieee.{Float, binary64, add, sub, mul, div, lt, le, ofBits, ofInt}
 use Rattle.arith.specs.declared.Outcome.{Outcome}
 use Rattle.arith.specs.declared.Outcome.the-variants.{Value}
 use Rattle.arith.specs.Bounds.{abs}
-use Rattle.arith.specs.Exp.{expOf}
+use Rattle.exponential.specs.Exp.{expOf}
 use Rattle.arith.specs.Outcome.{made, pick}
 
 abbrev pub one : Float

@@ -10,7 +10,7 @@ use arith::Outcome;
 pub fn norm_pdf(x: f64) -> f64
     ensures { λ r. ⌜ Value r ≡ normPdfOf x ⌝ }
 {
-    match arith::exp(-0.5 * x * x) {
+    match exponential::exp(-0.5 * x * x) {
         Outcome::Value(e) => 0.3989422804014327 * e,
         Outcome::Refused(_) => 0.0,
     }

@@ -1,15 +1,11 @@
--- Answers that are values: exp of a NaN and of what is not above 0 is accepted. Assumes nothing.
+-- Answers that are values. Assumes nothing.
 use mathlib.Core.Path.{_≡_, sym, ap, _∙_}
-use mathlib.Core.Logic.{_⊎_, inl, inr}
 use Prim.Native.Nat.{ℕ}
 use mathlib.Core.Bool.{Bool, true, false, true≢false}
-use lib.Ieee.{Float, nan}
+use lib.Ieee.{Float}
 use Rattle.arith.specs.declared.Outcome.{Outcome}
 use Rattle.arith.specs.declared.Outcome.the-variants.{Value, Refused}
-use Rattle.arith.specs.Bounds.{Sign}
-use Rattle.arith.specs.Exp.{expOf}
 use Rattle.arith.specs.Outcome.{made, pick, valueOf}
-use Rattle.arith.proofs.ExpLaws.{exp-nan, exp-nonpositive}
 
 abbrev pub Accepted : Outcome → Type 0
 Accepted o = (v : Float) × (o ≡ Value v)
@@ -23,10 +19,6 @@ never-refused o n a r = true≢false (ap is-value (sym (a .1) ∙ r))
 
 pub accepted-value : (o : Outcome) → Accepted o → o ≡ Value (valueOf o)
 accepted-value o a = a .1 ∙ ap Value (sym (ap valueOf (a .1)))
-
-pub exp-accepted : (y : Float) → (y ≡ nan) ⊎ Sign true y → Accepted (expOf y)
-exp-accepted y (inl e) = (nan, ap expOf e ∙ exp-nan)
-exp-accepted y (inr h) = let a = exp-nonpositive y h in (a .0, a .1)
 
 pub made-accepted : (f : Float → Float) (o : Outcome) → Accepted o → Accepted (made f o)
 made-accepted f o a = (f (a .0), ap (made f) (a .1))

@@ -29,10 +29,7 @@ around u q r Ordering·eq l a b e =
     go : (k : ℕ) → k < 2 → (2 * ((q + k) * u) ≤ 2 * (q * u + r) + u) × (2 * (q * u + r) ≤ 2 * ((q + k) * u) + u)
     go zero l' = let s : (q + 0) * u ≡ q * u = ap (λ (x : ℕ). x * u) (let z : q + 0 ≡ q = omega arith in z) in let h = e tt in (omega arith, omega arith)
     go (suc zero) l' = let s : (q + 1) * u ≡ q * u + u = add-mul q 1 u ∙ ap (λ (x : ℕ). q * u + x) (one-mul u) in let h = e tt in (omega arith, omega arith)
-    go (suc (suc k)) l' = absurd (no l')
-      where
-        no : suc (suc k) < 2 → ⊥
-        no x = omega arith
+    go (suc (suc k)) l' = absurd (omega arith)
 
 pub closest-error : (n u : ℕ) → 0 < u → (2 * (closest n u * u) ≤ 2 * n + u) × (2 * n ≤ 2 * (closest n u * u) + u)
 closest-error n u U =

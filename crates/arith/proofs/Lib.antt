@@ -3,7 +3,6 @@ pub mod Accepted
 pub mod Back
 pub mod HalfUnit
 pub mod Held
-pub mod Horner
 pub mod Lists
 pub mod Mono
 pub mod Nearest
@@ -11,17 +10,8 @@ pub mod Order
 pub mod Patterns
 pub mod Power
 pub mod ChoiceLaws
-pub mod ExpLaws
-pub mod FallingLaws
-pub mod ExpRange
-pub mod Remainder
-pub mod RootRound
-pub mod RootTop
-pub mod RootValue
-pub mod RootWhole
 pub mod Scan
 pub mod Sign
-pub mod SqrtLaws
 pub mod Whole
 pub mod Within
 pub mod WordFacts

@@ -271,3 +271,8 @@ places-full (suc n) t e i l = go (λ q m. places-full n t q i m) (t n) refl (pla
       | inr m ↦ f (omega arith) m
     ]
     go f false q p = let m = places-length n t in absurd (omega arith)
+
+-- eight elements fill an array of eight
+pub eight-filled : {A : Type 0} (z : A) (f : ℕ → A) (p : ℕ) → p ≡ 8 → filled z 8 (listOf f p) ≡ listOf f 8
+unfolding grown
+eight-filled z f p e = rw e

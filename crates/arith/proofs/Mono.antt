@@ -194,10 +194,7 @@ swapped f true a false b c = go (ltb a b) (ltb b a) (ltb→lt a b) (nltb→le a 
   where
     go : (x y : Bool) → (T x → a < b) → (T (not x) → b ≤ a) → (T y → b < a) → (T (not y) → a ≤ b)
         → cond x (round f false (b - a) c) (round f y (a - b) c) ≡ cond y (round f true (a - b) c) (round f false (b - a) c)
-    go true true p p' q q' = absurd (no (p tt) (q tt))
-      where
-        no : a < b → b < a → ⊥
-        no u v = omega arith
+    go true true p p' q q' = let u = p tt in let v = q tt in absurd (omega arith)
     go true false p p' q q' = refl
     go false true p p' q q' = refl
     go false false p p' q q' = let u = p' tt in let v = q' tt in ap (λ (n : ℕ). round f false n c) (let e : a - b ≡ b - a = omega arith in e)
@@ -205,10 +202,7 @@ swapped f false a true b c = go (ltb a b) (ltb b a) (ltb→lt a b) (nltb→le a 
   where
     go : (x y : Bool) → (T x → a < b) → (T (not x) → b ≤ a) → (T y → b < a) → (T (not y) → a ≤ b)
         → cond x (round f true (b - a) c) (round f false (a - b) c) ≡ cond y (round f false (a - b) c) (round f x (b - a) c)
-    go true true p p' q q' = absurd (no (p tt) (q tt))
-      where
-        no : a < b → b < a → ⊥
-        no u v = omega arith
+    go true true p p' q q' = let u = p tt in let v = q tt in absurd (omega arith)
     go true false p p' q q' = refl
     go false true p p' q q' = refl
     go false false p p' q q' = let u = p' tt in let v = q' tt in ap (λ (n : ℕ). round f false n c) (let e : a - b ≡ b - a = omega arith in e)

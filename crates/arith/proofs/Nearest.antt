@@ -115,10 +115,7 @@ unfolding toUnsigned neg lt le ofBits
 cut-neg nan w h = absurd w
 cut-neg (inf s) w h = absurd w
 cut-neg (fin true m e) w h = cap (m * up e / down e) (floor-small (fin true m e) w)
-cut-neg (fin false m e) w h = absurd (let g = ltb→lt (m * up e * 1) (0 * 1 * down e) h in no (m * up e) (down e) g)
-  where
-    no : (a d : ℕ) → a * 1 < 0 * 1 * d → ⊥
-    no a d g = omega arith
+cut-neg (fin false m e) w h = let g = ltb→lt (m * up e * 1) (0 * 1 * down e) h in absurd (omega arith)
 
 pub cut-pos : (y : Float) → Within (fin false 1 (pos 61)) y → T (not (lt y (ofBits binary64 0))) → toUnsigned 64 y ≡ floorOf y
 unfolding toUnsigned lt le ofBits

@@ -29,22 +29,16 @@ unfolding ofFields
 fields zero t h = odd-sign 53 false t 0 1074
 fields (suc x) t h = go (eqb (suc x) 2047) (eqb→eq (suc x) 2047)
   where
-    no : suc x ≡ 2047 → ⊥
-    no e = omega arith
-
     go : (b : Bool) → (T b → suc x ≡ 2047) → HasValue (cond b (cond (eqb t 0) (inf false) nan) (odd 53 false (4503599627370496 + t) x 1074)) false ((4503599627370496 + t) * 2 ^ x) (2 ^ 1074)
-    go true e = absurd (no (e tt))
+    go true e = let q = e tt in absurd (omega arith)
     go false e = odd-sign 53 false (4503599627370496 + t) x 1074
 
 pub value-of : (b : ℕ) → b < 9218868437227405312 → HasValue (ofBits binary64 b) false (digitsOf (b / 4503599627370496) (b % 4503599627370496) * 2 ^ above (b / 4503599627370496)) (2 ^ 1074)
 unfolding ofBits
 value-of b h =
-    let e1 : leb (top binary64) b ≡ false = is-false (leb (top binary64) b) (λ t. no (leb→le (top binary64) b t)) in
+    let e1 : leb (top binary64) b ≡ false = is-false (leb (top binary64) b) (λ t. let g = leb→le (top binary64) b t in omega arith) in
     let e2 : b % top binary64 / hid binary64 ≡ b / 4503599627370496 = omega arith in
     rw (e1, e2) (fields (b / 4503599627370496) (b % 4503599627370496) (omega arith))
-  where
-    no : 9223372036854775808 ≤ b → ⊥
-    no k = omega arith
 
 -- ---- such a pattern is no NaN's
 pub no-nan : (b : ℕ) → b < 9218868437227405312 → T (not (nanBits binary64 b))

@@ -16,40 +16,25 @@ shift x = go (leb 1074 (x + 52)) (leb 1023 (suc x)) (leb→le 1074 (x + 52)) (nl
     go : (a b : Bool) → (T a → 1074 ≤ x + 52) → (T (not a) → x + 52 < 1074) → (T b → 1023 ≤ suc x) → (T (not b) → suc x < 1023)
         → cond a (pos (x + 52 - 1074)) (negsuc (1074 - suc (x + 52))) ≡ cond b (pos (suc x - 1023)) (negsuc (1023 - suc (suc x)))
     go true true p q r s = ap pos (omega arith)
-    go true false p q r s = absurd (let u = p tt in let v = s tt in no u v)
-      where
-        no : 1074 ≤ x + 52 → suc x < 1023 → ⊥
-        no u v = omega arith
-    go false true p q r s = absurd (let u = q tt in let v = r tt in no u v)
-      where
-        no : x + 52 < 1074 → 1023 ≤ suc x → ⊥
-        no u v = omega arith
+    go true false p q r s = let u = p tt in let v = s tt in absurd (omega arith)
+    go false true p q r s = let u = q tt in let v = r tt in absurd (omega arith)
     go false false p q r s = ap negsuc (let u = q tt in omega arith)
 
 fields : (b : ℕ) → 0 < b → b < 2047 → ofFields binary64 false b 0 ≡ fin false 1 (minus b 1023)
 unfolding ofFields odd trailingZeros
-fields zero p h = absurd (no p)
-  where
-    no : 0 < 0 → ⊥
-    no q = omega arith
+fields zero p h = absurd (omega arith)
 fields (suc x) p h = rw (off) (ap (λ z. fin false 1 z) (shift x))
   where
     off : eqb (suc x) 2047 ≡ false
-    off = is-false (eqb (suc x) 2047) (λ t. let e = eqb→eq (suc x) 2047 t in no e)
-      where
-        no : suc x ≡ 2047 → ⊥
-        no e = omega arith
+    off = is-false (eqb (suc x) 2047) (λ t. let e = eqb→eq (suc x) 2047 t in omega arith)
 
 pub bits-power : (b : ℕ) → 0 < b → b < 2047 → ofBits binary64 (b * 4503599627370496) ≡ fin false 1 (minus b 1023)
 unfolding ofBits
 bits-power b p h =
-    let e1 : leb (top binary64) (b * 4503599627370496) ≡ false = is-false (leb (top binary64) (b * 4503599627370496)) (λ t. let g = leb→le (top binary64) (b * 4503599627370496) t in no g) in
+    let e1 : leb (top binary64) (b * 4503599627370496) ≡ false = is-false (leb (top binary64) (b * 4503599627370496)) (λ t. let g = leb→le (top binary64) (b * 4503599627370496) t in omega arith) in
     let e2 : b * 4503599627370496 % top binary64 / hid binary64 ≡ b = omega arith in
     let e3 : b * 4503599627370496 % hid binary64 ≡ 0 = omega arith in
     rw (e1, e2, e3) (fields b p h)
-  where
-    no : 9223372036854775808 ≤ b * 4503599627370496 → ⊥
-    no g = omega arith
 
 pub bits-no-nan : (b : ℕ) → 0 < b → b < 2047 → T (not (nanBits binary64 (b * 4503599627370496)))
 unfolding isNan

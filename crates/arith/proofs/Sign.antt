@@ -1,21 +1,19 @@
 -- A product and a quotient have the sign that the rule of signs says, zeros included: `Sign false x` is 0 ≤ x, and `Sign true x` is x ≤ 0. Assumes nothing.
 use mathlib.Core.Path.{_≡_, refl, sym, ap, _∙_, subst}
 use mathlib.Core.Logic.{_⊎_, inl, inr}
-use Prim.Native.Nat.{ℕ, zero, suc, _*_, _^_, _<_}
+use Prim.Native.Nat.{ℕ, zero, suc, _*_, _<_}
 use native.Mathlib.Nat.{mul-pos, zero-mul, mul-zero, zero-lt-suc, lt-irrefl}
 use native.Mathlib.Omega.{arith}
-use mathlib.Core.Bool.{Bool, true, false, true≢false}
+use mathlib.Core.Bool.{Bool, true, false}
 use lib.Dec.{T, eqb·suc-zero}
-use lib.Pow.{pow-pos}
 use lib.IntN.{ℤ, pos}
 use lib.Ieee.{Float, nan, inf, fin, binary64, up, down, unlike, round, mul, div, le, lt, ofBits}
 use lib.Ieee.Fits.{up-pos, down-pos}
 use lib.Ieee.Scale.{finite}
 use Rattle.arith.specs.Bounds.{Sign}
-use Rattle.arith.specs.Sqrt.{sqrtOf, rootOf}
 use Rattle.arith.proofs.Order.{LeS, le→, →le}
 use Rattle.arith.proofs.Zero.{no-digits, zero-lt}
-use Rattle.arith.proofs.Mono.{round-signed, zero-round, not-less}
+use Rattle.arith.proofs.Mono.{round-signed, zero-round, not-less, unlike-plus}
 
 -- ---- the sign of a finite value is its sign bit, but for a zero
 pub bit-of : (s a : Bool) (m : ℕ) (e : ℤ) → Sign s (fin a m e) → (a ≡ s) ⊎ (m ≡ 0)
@@ -79,10 +77,6 @@ mul-sign s t (fin a m e) (fin b n d) F G p q = go (bit-of s a m e p) (bit-of t b
     go (inr z) j = sign-zero (unlike s t) (unlike a b) (m * up e * (n * up d)) (down e * down d) D (nil-left m (up e) (n * up d) z)
 
 -- by a positive divisor
-plus : (a : Bool) → unlike a false ≡ a
-plus true = refl
-plus false = refl
-
 pub div-sign : (s : Bool) (x y : Float) → T (finite x) → T (finite y) → Sign s x → T (lt (ofBits binary64 0) y) → Sign s (div binary64 x y)
 unfolding div lt ofBits
 div-sign s nan y F G p q = absurd F
@@ -92,7 +86,7 @@ div-sign s (fin a m e) (inf b) F G p q = absurd G
 div-sign s (fin a m e) (fin true n d) F G p q = absurd q
 div-sign s (fin a m e) (fin false zero d) F G p q = absurd (lt-irrefl 0 (zero-lt false 0 d (unfold lt ofBits in q) .1))
 div-sign s (fin a m e) (fin false (suc n) d) F G p q =
-    rw (eqb·suc-zero n, plus a) (go (bit-of s a m e p))
+    rw (eqb·suc-zero n, unlike-plus a) (go (bit-of s a m e p))
   where
     D : 0 < suc n * up d * down e
     D = mul-pos (mul-pos (zero-lt-suc n) (up-pos d)) (down-pos e)
@@ -100,17 +94,3 @@ div-sign s (fin a m e) (fin false (suc n) d) F G p q =
     go : (a ≡ s) ⊎ (m ≡ 0) → Sign s (round binary64 a (m * up e * down d) (suc n * up d * down e))
     go (inl i) = subst (λ (u : Bool). Sign s (round binary64 u (m * up e * down d) (suc n * up d * down e))) (sym i) (sign-round s (m * up e * down d) (suc n * up d * down e) D)
     go (inr z) = sign-zero s a (m * up e * down d) (suc n * up d * down e) D (nil-left m (up e) (down d) z)
-
--- ---- the square root of a value that is not below 0
-pub sqrt-sign : (x : Float) → Sign false x → Sign false (sqrtOf x)
-unfolding sqrtOf rootOf le ofBits
-sqrt-sign nan h = absurd h
-sqrt-sign (inf true) h = absurd h
-sqrt-sign (inf false) h = h
-sqrt-sign (fin s zero e) h = h
-sqrt-sign (fin true (suc m) e) h = absurd (no (bit-of false true (suc m) e (unfold le ofBits in h)))
-  where
-    no : (true ≡ false) ⊎ (suc m ≡ 0) → ⊥
-    no (inl i) = true≢false i
-    no (inr z) = omega arith
-sqrt-sign (fin false (suc m) e) h = sign-round false _ (2 ^ 601) (pow-pos 601)

@@ -1,7 +1,7 @@
 -- From the outcome of a test in the code to the fact, and both cases of a test. Assumes nothing.
 use mathlib.Core.Path.{_≡_, refl, sym, subst}
 use mathlib.Core.Logic.{_⊎_, inl, inr}
-use mathlib.Core.Bool.{Bool, true, false, not, _||_, _&&_, false≢true}
+use mathlib.Core.Bool.{Bool, true, false, not, _||_, _&&_, and-eq-true-iff}
 use lib.Dec.{T, not-T}
 use lib.Ieee.Bits as bits
 
@@ -38,5 +38,4 @@ iff false false f g = refl
 
 -- both tests of a conjunction hold
 pub both : (a b : Bool) → (a && b) ≡ true → (a ≡ true) × (b ≡ true)
-both true b h = (refl, h)
-both false b h = absurd (false≢true h)
+both a b h = and-eq-true-iff a b .0 h

@@ -15,7 +15,7 @@ use lib.Ieee.Back.{whole-unique, round-whole}
 use Rattle.arith.proofs.Order as order
 use Rattle.arith.proofs.Held.{held}
 use Rattle.arith.proofs.Nearest.{grid-form}
-use Rattle.arith.proofs.Zero.{zeroF, eq-zero, zero-eq, lt-zero, not-lt-zero}
+use Rattle.arith.proofs.Zero.{zeroF, zero-exponent, eq-zero, zero-eq, lt-zero, not-lt-zero}
 use Rattle.arith.specs.Bounds.{Within}
 use Rattle.arith.proofs.Within.{within, cross, neg-round, upper, neg-within, widen}
 use Rattle.arith.specs.Rounding.{nearestOf}
@@ -42,22 +42,11 @@ whole-same false m a t = (sym (ap (λ (n : ℕ). round binary64 false n 1) (half
 -- from 2 ^ 52 on there is no fraction
 large : (s : Bool) (m : ℕ) (e : ℤ) → T (fits binary64 (fin s m e)) → 2 ^ 52 * down e ≤ m * up e → Both (fin s m e)
 large s m (pos a) t h = whole-same s m a t
-large s zero (negsuc a) t h = absurd (no (2 ^ suc a) (pow-pos (suc a)) h)
-  where
-    no : (d : ℕ) → 0 < d → 2 ^ 52 * d ≤ 0 * 1 → ⊥
-    no d D k = omega arith
-large s (suc m) (negsuc a) t h = absurd (no (2 ^ a) (pow-pos a) (pow-succ' 2 a) (grid-form binary64 s (suc m) (negsuc a) t .0))
-  where
-    no : (p : ℕ) → 0 < p → 2 ^ suc a ≡ 2 * p → suc m < 2 ^ 53 → ⊥
-    no p P e k = omega arith
+large s zero (negsuc a) t h = let D = pow-pos (suc a) in absurd (omega arith)
+large s (suc m) (negsuc a) t h = let p = pow-pos a in let e = pow-succ' 2 a in let k = grid-form binary64 s (suc m) (negsuc a) t .0 in absurd (omega arith)
 
 zero-flat : (s : Bool) (e : ℤ) → T (fits binary64 (fin s zero e)) → Both (fin s zero e)
-unfolding fits
-zero-flat s (pos a) t = whole-same s zero a t
-zero-flat s (negsuc a) t = absurd (no (2 ^ a) (pow-pos a) (pow-succ' 2 a) (eqb→eq (1 * 2 ^ suc a) 1 t))
-  where
-    no : (p : ℕ) → 0 < p → 2 ^ suc a ≡ 2 * p → 1 * 2 ^ suc a ≡ 1 → ⊥
-    no p P e k = omega arith
+zero-flat s e t = subst (λ (z : ℤ). T (fits binary64 (fin s zero z)) → Both (fin s zero z)) (sym (zero-exponent s e t)) (whole-same s zero 0) t
 
 -- ---- the arms
 abbrev pub end : Float
@@ -68,10 +57,7 @@ unfolding eq ofBits
 at-zero nan t h = absurd h
 at-zero (inf s) t h = absurd h
 at-zero (fin s zero e) t h = zero-flat s e t
-at-zero (fin s (suc m) e) t h = absurd (no (eq-zero s (suc m) e (unfold eq ofBits in h)))
-  where
-    no : suc m ≡ 0 → ⊥
-    no z = omega arith
+at-zero (fin s (suc m) e) t h = let z = eq-zero s (suc m) e (unfold eq ofBits in h) in absurd (omega arith)
 
 -- at 2 ^ 52 in size or more, and a NaN and an infinity
 pub beyond : (x : Float) → T (fits binary64 x) → T (not (lt x end)) ⊎ T (not (lt (neg end) x)) → Both x
@@ -82,18 +68,12 @@ beyond (fin s m e) t (inl h) = up-side s (order.le→ false (1 * 2 ^ 52 * down e
   where
     up-side : (s : Bool) → order.LeS false (1 * 2 ^ 52 * down e) s (m * up e * 1) → T (fits binary64 (fin s m e)) → Both (fin s m e)
     up-side false k t = large false m e t (le-trans (le-of-eq (ap (λ (x : ℕ). x * down e) (sym (one-mul (2 ^ 52))))) (le-trans k (le-of-eq (mul-one (m * up e)))))
-    up-side true k t = absurd (no (down e) (m * up e * 1) (down-pos e) k)
-      where
-        no : (d b : ℕ) → 0 < d → 1 * 2 ^ 52 * d + b ≤ 0 → ⊥
-        no d b D l = omega arith
+    up-side true k t = let D = down-pos e in absurd (omega arith)
 beyond (fin s m e) t (inr h) = down-side s (order.le→ s (m * up e * 1) true (1 * 2 ^ 52 * down e) (unfold le in order.le-of-not-lt (neg end) (fin s m e) tt tt h)) t
   where
     down-side : (s : Bool) → order.LeS s (m * up e * 1) true (1 * 2 ^ 52 * down e) → T (fits binary64 (fin s m e)) → Both (fin s m e)
     down-side true k t = large true m e t (le-trans (le-of-eq (ap (λ (x : ℕ). x * down e) (sym (one-mul (2 ^ 52))))) (le-trans k (le-of-eq (mul-one (m * up e)))))
-    down-side false k t = absurd (no (down e) (m * up e * 1) (down-pos e) k)
-      where
-        no : (d b : ℕ) → 0 < d → b + 1 * 2 ^ 52 * d ≤ 0 → ⊥
-        no d b D l = omega arith
+    down-side false k t = let D = down-pos e in absurd (omega arith)
 
 -- ---- below 2 ^ 52 in size
 not-below : (m : ℕ) (e : ℤ) → T (lt (fin false m e) zeroF) → ⊥

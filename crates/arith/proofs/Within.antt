@@ -118,10 +118,7 @@ div-cross m e n d b g c h p q =
     simp (mul-assoc, mul-comm, mul-left-comm) (simp (mul-assoc, mul-comm, mul-left-comm) at (mul-le-mul p q))
 
 pos-of : (c k : ℕ) → 0 < c * k → 0 < c
-pos-of zero k h = absurd (no (0 * k) (omega arith) h)
-  where
-    no : (n : ℕ) → n ≡ 0 → 0 < n → ⊥
-    no n e l = omega arith
+pos-of zero k h = absurd (omega arith)
 pos-of (suc c) k h = omega arith
 
 pub div-within : (f : Format) (b c : ℕ) (g h : ℤ) (x y : Float) → 0 < c → T (finite y) → Within (fin false b g) x → T (le (fin false c h) (abs y))
@@ -238,11 +235,8 @@ pick-plus : (f : Format) (a b c : ℕ) → b ≤ a → sum f false a true b c �
 unfolding sum
 pick-plus f a b c h = go (ltb a b) (ltb→lt a b)
   where
-    no : a < b → ⊥
-    no k = omega arith
-
     go : (t : Bool) → (T t → a < b) → cond t (round f true (b - a) c) (round f false (a - b) c) ≡ round f false (a - b) c
-    go true k = absurd (no (k tt))
+    go true k = let l = k tt in absurd (omega arith)
     go false k = refl
 
 fewer : (p q r s : ℕ) → p ≡ r → s ≤ q → p - q ≤ r - s

@@ -21,13 +21,10 @@ is-nan nan e = refl
 is-nan (inf s) e = cc
 is-nan (fin s m x) e = cc
 
-never : _≡_ {A = ℕ} 0 1 → ⊥
-never z = omega arith
-
 -- x != x was false
 pub no-nan : (x : Float) → ne x x ≡ false → T (not (isNan x))
 unfolding isNan
-no-nan nan e = let z : _≡_ {A = ℕ} 0 1 = cc nan-differs in absurd (never z)
+no-nan nan e = let z : _≡_ {A = ℕ} 0 1 = cc nan-differs in absurd (omega arith)
 no-nan (inf s) e = tt
 no-nan (fin s m x) e = tt
 
@@ -69,11 +66,11 @@ up-from n = let e : suc n - 1 ≡ n = omega arith in rw (le-ltb (suc n) 1 (omega
 -- what the casts of a signed number give, by its sign
 pub cast-fits : (z : ℤ) → SFits w64 z → leZ (pos 0) z ≡ true → T (nonNeg z) × Fits w64 (natAbs z)
 cast-fits (pos n) f e = (tt, record { fits = omega (arith, f .sfits) })
-cast-fits (negsuc n) f e = let z : _≡_ {A = ℕ} 0 1 = cc in absurd (never z)
+cast-fits (negsuc n) f e = let z : _≡_ {A = ℕ} 0 1 = cc in absurd (omega arith)
 
 pub cast-is : (z : ℤ) → leZ (pos 0) z ≡ true → natAbs z ≡ ofZ w64 z
 cast-is (pos n) e = refl
-cast-is (negsuc n) e = let z : _≡_ {A = ℕ} 0 1 = cc in absurd (never z)
+cast-is (negsuc n) e = let z : _≡_ {A = ℕ} 0 1 = cc in absurd (omega arith)
 
 pub not-below : (n : ℕ) → leb 0 n ≡ false → ⊥
 not-below n e = let l : n < 0 = leb-false 0 n e in omega arith

@@ -1,11 +1,10 @@
 -- How a finite value compares with 0, by its sign bit and its digits. Assumes nothing.
-use mathlib.Core.Path.{_≡_, refl, sym}
+use mathlib.Core.Path.{_≡_, refl}
 use mathlib.Core.Logic.{_⊎_, inl, inr}
 use Prim.Native.Nat.{ℕ, zero, suc, _+_, _*_, _^_, _≤_, _<_}
 use native.Mathlib.Nat.{mul-pos, zero-lt-suc, lt-irrefl, lt-of-lt-of-le, pow-succ'}
 use native.Mathlib.Omega.{arith}
-use lib.Pow.{pow-pos}
-use mathlib.Core.Bool.{Bool, true, false, not, _||_, Bool·beq, true≢false}
+use mathlib.Core.Bool.{Bool, true, false, not, _||_, Bool·beq, false≢true}
 use lib.Dec.{T, eqb, eqb→eq, ltb→lt, nltb→le}
 use lib.IntN.{ℤ, pos, negsuc}
 use lib.Ieee.{Float, nan, inf, fin, binary64, up, down, fits, lt, eq, ofBits}
@@ -24,14 +23,8 @@ no-digits (suc m) e h = absurd (lt-irrefl 0 (lt-of-lt-of-le (mul-pos (mul-pos (z
 pub zero-exponent : (s : Bool) (e : ℤ) → T (fits binary64 (fin s 0 e)) → e ≡ pos 0
 unfolding fits
 zero-exponent s (pos zero) f = refl
-zero-exponent s (pos (suc a)) f = absurd (no (2 ^ a) (pow-pos a) (pow-succ' 2 a) (eqb→eq (2 ^ suc a * 1) 1 f))
-  where
-    no : (p : ℕ) → 0 < p → 2 ^ suc a ≡ 2 * p → 2 ^ suc a * 1 ≡ 1 → ⊥
-    no p P e k = omega arith
-zero-exponent s (negsuc a) f = absurd (no (2 ^ a) (pow-pos a) (pow-succ' 2 a) (eqb→eq (1 * 2 ^ suc a) 1 f))
-  where
-    no : (p : ℕ) → 0 < p → 2 ^ suc a ≡ 2 * p → 1 * 2 ^ suc a ≡ 1 → ⊥
-    no p P e k = omega arith
+zero-exponent s (pos (suc a)) f = let p = pow-succ' 2 a in let k = eqb→eq (2 ^ suc a * 1) 1 f in absurd (omega arith)
+zero-exponent s (negsuc a) f = let p = pow-succ' 2 a in let k = eqb→eq (1 * 2 ^ suc a) 1 f in absurd (omega arith)
 
 pub eq-zero : (s : Bool) (m : ℕ) (e : ℤ) → T (eq (fin s m e) zeroF) → m ≡ 0
 unfolding eq ofBits
@@ -47,10 +40,7 @@ zero-eq s e =
 pub lt-zero : (s : Bool) (m : ℕ) (e : ℤ) → T (lt (fin s m e) zeroF) → s ≡ true
 unfolding lt ofBits
 lt-zero true m e h = refl
-lt-zero false m e h = absurd (no (m * up e) (down e) (ltb→lt (m * up e * 1) (0 * 1 * down e) h))
-  where
-    no : (a d : ℕ) → a * 1 < 0 * 1 * d → ⊥
-    no a d k = omega arith
+lt-zero false m e h = let k = ltb→lt (m * up e * 1) (0 * 1 * down e) h in absurd (omega arith)
 
 pub not-lt-zero : (s : Bool) (m : ℕ) (e : ℤ) → T (not (lt (fin s m e) zeroF)) → (s ≡ false) ⊎ (m ≡ 0)
 unfolding lt ofBits
@@ -60,10 +50,7 @@ not-lt-zero true m e h = inr (no-digits m e (let k = nltb→le 0 (m * up e * 1 +
 pub zero-lt : (s : Bool) (m : ℕ) (e : ℤ) → T (lt zeroF (fin s m e)) → (s ≡ false) × (0 < m)
 unfolding lt ofBits
 zero-lt true m e h = absurd h
-zero-lt false zero e h = absurd (no (down e) (up e) (ltb→lt (0 * 1 * down e) (0 * up e * 1) h))
-  where
-    no : (d u : ℕ) → 0 * 1 * d < 0 * u * 1 → ⊥
-    no d u k = omega arith
+zero-lt false zero e h = let k = ltb→lt (0 * 1 * down e) (0 * up e * 1) h in absurd (omega arith)
 zero-lt false (suc m) e h = (refl, zero-lt-suc m)
 
 pub not-zero-lt : (s : Bool) (m : ℕ) (e : ℤ) → T (not (lt zeroF (fin s m e))) → (s ≡ true) ⊎ (m ≡ 0)
@@ -75,8 +62,4 @@ pub above-zero : (x : Float) → T (positive x) → T (lt zeroF x)
 above-zero nan p = absurd p
 above-zero (inf s) p = absurd p
 above-zero (fin true m e) p = absurd p
-above-zero (fin false m e) p = elim (either (lt zeroF (fin false m e))) [ inl h ↦ h | inr h ↦ absurd (no (not-zero-lt false m e h) (ltb→lt 0 m p)) ]
-  where
-    no : (false ≡ true) ⊎ (m ≡ 0) → 0 < m → ⊥
-    no (inl q) l = true≢false (sym q)
-    no (inr z) l = omega arith
+above-zero (fin false m e) p = elim (either (lt zeroF (fin false m e))) [ inl h ↦ h | inr h ↦ let l = ltb→lt 0 m p in absurd (elim (not-zero-lt false m e h) [ inl q ↦ false≢true q | inr z ↦ omega arith ]) ]

@@ -1,12 +1,7 @@
 pub mod Bounds
 pub mod Choice
-pub mod Exp
-pub mod ExpParts
 pub mod Lists
+pub mod Ln2
 pub mod Outcome
-pub mod RootParts
-pub mod Rooted
 pub mod Rounding
-pub mod Scan
-pub mod Sqrt
 pub mod Sums

@@ -7,7 +7,7 @@ ghost use Rattle.arith.specs.Bounds.{Within};
 ghost use Rattle.arith.specs.Rounding.{roundOf, floorOf, nearestOf};
 
 // The whole number nearest to the size of t, a half upward.
-pub(crate) fn nearest(t: f64) -> u64
+fn nearest(t: f64) -> u64
     requires { ⌜ Within (fin false 1 (pos 60)) t ⌝ }
     ensures { λ r. ⌜ r ≡ nearestOf t ⌝ }
 {

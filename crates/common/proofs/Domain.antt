@@ -25,7 +25,7 @@ use Rattle.arith.proofs.Tests.{taken, either}
 use Rattle.arith.proofs.Order as order
 use Rattle.arith.proofs.Within.{bound, widen, cross, abs-round, div-within, add-in, sub-in, within, within-finite, upper, lower}
 use Rattle.arith.proofs.Whole.{whole}
-use Rattle.arith.proofs.ExpLaws.{exp-decoded, exp-drawn}
+use Rattle.exponential.proofs.ExpLaws.{exp-decoded, exp-drawn}
 use Rattle.arith.proofs.Back.{back-linear, back-log}
 use Rattle.rng_util.specs.Draws.{unitOf, unitDrawOf}
 use Rattle.rng_util.specs.Generator.{nextOf}

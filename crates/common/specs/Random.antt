@@ -7,7 +7,7 @@ use lib.Signed.{quotZ}
 use lib.Ieee.{Float, binary64, add, sub, mul, div, ofInt, toSigned}
 use Rattle.arith.specs.declared.Outcome.{Outcome}
 use Rattle.arith.specs.declared.Outcome.the-variants.{Value, Refused}
-use Rattle.arith.specs.Exp.{expOf}
+use Rattle.exponential.specs.Exp.{expOf}
 use Rattle.arith.specs.Rounding.{floorOf}
 use Rattle.rng_util.specs.Draws.{unitDrawOf, wholeDrawOf}
 use Rattle.distribution.specs.declared.FloatDistribution.{FloatDistribution}

@@ -20,7 +20,7 @@ fn unscale(log_scale: bool, x: f64) -> Outcome
     ensures { λ r. ⌜ r ≡ unscaleOf «log_scale» x ⌝ }
 {
     if log_scale {
-        arith::exp(x)
+        exponential::exp(x)
     } else {
         Outcome::Value(x)
     }

@@ -63,7 +63,7 @@ fn log_range(b: InternalBounds, u: f64) -> Outcome
     ensures { λ r. ⌜ r ≡ logRange b u ⌝ }
 {
     match b {
-        InternalBounds::Ends(lo, hi) => arith::exp(f64_range(lo, hi, u)),
+        InternalBounds::Ends(lo, hi) => exponential::exp(f64_range(lo, hi, u)),
         InternalBounds::Absent => Outcome::Refused(11),
         InternalBounds::Refused(n) => Outcome::Refused(n),
     }

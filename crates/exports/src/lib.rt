@@ -1,9 +1,9 @@
 // Leaves for programs in other languages, which time them: words in, words out.
 ghost use mathlib.Core.Path.{_≡_};
 ghost use lib.Ieee.{binary64, ofBits, toBits};
-ghost use Rattle.arith.specs.Exp.{expOf};
+ghost use Rattle.exponential.specs.Exp.{expOf};
 ghost use Rattle.logarithm.specs.Ln.{lnOf};
-ghost use Rattle.arith.specs.Sqrt.{sqrtOf};
+ghost use Rattle.root.specs.Sqrt.{sqrtOf};
 ghost use Rattle.exports.specs.Told.{toldOf};
 
 // The word of a value, or the number of a refusal.
@@ -20,14 +20,14 @@ fn told(o: arith::Outcome) -> u64
 pub extern "C" fn arith_sqrt(x: u64) -> u64
     ensures { λ r. ⌜ r ≡ toBits binary64 (sqrtOf (ofBits binary64 x)) ⌝ }
 {
-    arith::word_of_float(arith::sqrt(arith::float_of_word(x)))
+    arith::word_of_float(root::sqrt(arith::float_of_word(x)))
 }
 
 #[no_mangle]
 pub extern "C" fn arith_exp(x: u64) -> u64
     ensures { λ r. ⌜ r ≡ toldOf (expOf (ofBits binary64 x)) ⌝ }
 {
-    told(arith::exp(arith::float_of_word(x)))
+    told(exponential::exp(arith::float_of_word(x)))
 }
 
 #[no_mangle]

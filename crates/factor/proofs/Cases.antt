@@ -6,7 +6,7 @@ use lib.IntN.{pos}
 use lib.ListN.{take}
 use lib.Ieee.{Float, binary64, ofBits, ofInt, round, sub, mul, div, lt}
 use Rattle.arith.specs.Lists.{grown, every}
-use Rattle.arith.specs.Sqrt.{isqrt, rootOf, sqrtOf}
+use Rattle.root.specs.Sqrt.{isqrt, rootOf, sqrtOf}
 use Rattle.factor.specs.Triangle.{rowsOf, lessOf}
 use Rattle.factor.specs.Cholesky.{columnsOf, choleskyOf}
 use Rattle.factor.specs.Solve.{backwardOf, solveOf}

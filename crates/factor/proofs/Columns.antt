@@ -11,7 +11,7 @@ use lib.Dec.{eqb}
 use lib.ListN.{getD, set}
 use lib.Ieee.{Float, nan, binary64, div}
 use Rattle.arith.specs.Lists.{padded}
-use Rattle.arith.specs.Sqrt.{sqrtOf}
+use Rattle.root.specs.Sqrt.{sqrtOf}
 use Rattle.factor.specs.Triangle.{at, entry, rowsOf, lessOf}
 use Rattle.factor.specs.Cholesky.{restOf, elementOf, columnsOf, factorOf}
 use Rattle.factor.proofs.Triangle.{less-same, filled, entry-before, entry-made, filled-set, filled-all}

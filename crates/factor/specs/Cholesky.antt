@@ -5,7 +5,7 @@ use mathlib.Core.List.{List, []}
 use lib.Dec.{eqb, leb}
 use lib.Ieee.{Float, binary64, div, lt, ofBits}
 use Rattle.arith.specs.Lists.{every, padded}
-use Rattle.arith.specs.Sqrt.{sqrtOf}
+use Rattle.root.specs.Sqrt.{sqrtOf}
 use Rattle.factor.specs.declared.Factor.{Factor}
 use Rattle.factor.specs.Triangle.{entry, rowsOf, lessOf}
 

@@ -51,7 +51,7 @@ fn row(l: &mut [f64; 5050], a: &[f64; 5050], i: usize) -> bool
     let d = place(i, i);
     let pivot = rest(l, a[d], i, i);
     if pivot > 0.0 {
-        l[d] = arith::sqrt(pivot);
+        l[d] = root::sqrt(pivot);
         return true;
     }
     false

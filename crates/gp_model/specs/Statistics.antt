@@ -9,7 +9,7 @@ use lib.Ieee.{Float, nan, binary64, sub, div, le, ofBits, ofInt}
 use Rattle.arith.specs.Bounds.{abs}
 use Rattle.arith.specs.Choice.{atLeast}
 use Rattle.arith.specs.Lists.{listOf, every}
-use Rattle.arith.specs.Sqrt.{sqrtOf}
+use Rattle.root.specs.Sqrt.{sqrtOf}
 use Rattle.arith.specs.Sums.{sumOver}
 use Rattle.kernel.specs.Matern.{square}
 

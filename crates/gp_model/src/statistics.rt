@@ -73,9 +73,9 @@ fn value_deviation(y: &[f64]) -> f64
 {
     let n = y.len();
     if n > 1 {
-        return arith::at_least(arith::sqrt(variance(y, n, 1, 0, n - 1)), 1e-10);
+        return arith::at_least(root::sqrt(variance(y, n, 1, 0, n - 1)), 1e-10);
     }
-    arith::at_least(arith::sqrt(1.0), 1e-10)
+    arith::at_least(root::sqrt(1.0), 1e-10)
 }
 
 // The values of a fit, standardised.
@@ -102,7 +102,7 @@ pub(crate) fn lengthscales(x: &[f64], n: usize, d: usize) -> [f64; 20]
     let mut out = [0.0; 20];
     let mut j = 0;
     while j < d {
-        out[j] = arith::at_least(arith::sqrt(variance(x, n, d, j, n)), 0.01);
+        out[j] = arith::at_least(root::sqrt(variance(x, n, d, j, n)), 0.01);
         j += 1;
     }
     out

@@ -6,10 +6,12 @@ use Prim.Native.Nat.{zero, suc}
 use lib.Ieee.{Float, nan, inf, fin, binary64, mul, neg, le, ofBits}
 use borrow.Author.Tests.{eq-eqb}
 use Rattle.arith.specs.Bounds.{Sign}
-use Rattle.arith.specs.Sqrt.{sqrtOf}
-use Rattle.arith.proofs.Accepted.{Accepted, accepted-value, exp-accepted, made-accepted}
+use Rattle.root.specs.Sqrt.{sqrtOf}
+use Rattle.arith.proofs.Accepted.{Accepted, accepted-value, made-accepted}
+use Rattle.exponential.proofs.ExpLaws.{exp-accepted}
 use Rattle.arith.proofs.Order as order
-use Rattle.arith.proofs.Sign.{mul-sign, plus-sign, sqrt-sign, zero-sign}
+use Rattle.arith.proofs.Sign.{mul-sign, plus-sign, zero-sign}
+use Rattle.root.proofs.RootSign.{sqrt-sign}
 use Rattle.kernel.specs.Accepts.{KernelAccepts}
 use Rattle.kernel.specs.Matern.{sqrt5, squaredDistanceOf, scaledRootOf, decayOf, atOf, matern52Of}
 

@@ -4,10 +4,10 @@ use mathlib.Core.Path.{_≡_, refl}
 use mathlib.Core.List.{List, [], _∷_}
 use lib.IntN.{pos}
 use lib.Ieee.{Float, binary64, ofBits, toBits, round, add, sub, mul, div, neg, lt, isNan, ofInt}
-use Rattle.arith.specs.Exp.{expOf, hornerOf, reducedOf, scaledOf, wholeOf}
+use Rattle.exponential.specs.Exp.{expOf, hornerOf, reducedOf, scaledOf, wholeOf}
 use Rattle.arith.specs.Outcome.{numberOf, wordOf}
 use Rattle.arith.specs.Rounding.{nearestOf, roundOf}
-use Rattle.arith.specs.Sqrt.{isqrt, rootOf, sqrtOf}
+use Rattle.root.specs.Sqrt.{isqrt, rootOf, sqrtOf}
 use Rattle.arith.specs.Sums.{sumOver}
 use Rattle.kernel.specs.Matern.{scaledRootOf, decayOf, matern52Of}
 

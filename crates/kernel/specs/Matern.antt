@@ -7,9 +7,9 @@ use lib.IntN.{pos}
 use lib.Ieee.{Float, nan, binary64, add, sub, mul, div, neg, ofBits, ofInt}
 use Rattle.arith.specs.declared.Outcome.{Outcome}
 use Rattle.arith.specs.declared.Outcome.the-variants.{Value, Refused}
-use Rattle.arith.specs.Exp.{expOf}
+use Rattle.exponential.specs.Exp.{expOf}
 use Rattle.arith.specs.Outcome.{made, pick}
-use Rattle.arith.specs.Sqrt.{sqrtOf}
+use Rattle.root.specs.Sqrt.{sqrtOf}
 use Rattle.arith.specs.Sums.{sumOver}
 
 -- the square of a float

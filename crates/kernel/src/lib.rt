@@ -37,14 +37,14 @@ pub fn squared_distance(x1: &[f64], x2: &[f64], lengthscales: &[f64]) -> Outcome
 pub fn scaled_root(r_sq: f64) -> f64
     ensures { λ r. ⌜ r ≡ scaledRootOf «r_sq» ⌝ }
 {
-    2.236213562373095 * arith::sqrt(r_sq)
+    2.236213562373095 * root::sqrt(r_sq)
 }
 
 // The kernel by a squared distance and its scaled root.
 pub fn decay(r_sq: f64, sqrt5_r: f64, signal_var: f64) -> Outcome
     ensures { λ r. ⌜ r ≡ decayOf «r_sq» «sqrt5_r» «signal_var» ⌝ }
 {
-    match arith::exp(-sqrt5_r) {
+    match exponential::exp(-sqrt5_r) {
         Outcome::Value(e) => { Outcome::Value(signal_var * (1.0 + sqrt5_r + 5.0 / 3.0 * r_sq) * e) }
         Outcome::Refused(n) => Outcome::Refused(n),
     }

@@ -7,7 +7,7 @@ use lib.ListN.{getD}
 use lib.Ieee.{Float, nan, inf, fin, binary64, mul, neg, ofInt}
 use Rattle.arith.specs.declared.Outcome.{Outcome}
 use Rattle.arith.specs.declared.Outcome.the-variants.{Value, Refused}
-use Rattle.arith.specs.Exp.{expOf}
+use Rattle.exponential.specs.Exp.{expOf}
 use Rattle.arith.specs.Outcome.{made, valueOf}
 use Rattle.kernel.specs.Matern.{polynomialOf, scaledRootOf, decayOf, atOf}
 use Rattle.lanes.specs.Rows.{eightOf}

@@ -5,9 +5,9 @@ use Prim.Native.Nat.{ℕ, zero, suc, _+_, _-_, _*_, _/_, _%_, _^_, _≤_, _<_}
 use native.Mathlib.Nat.{eq-zero-or-pos, mul-le-mul-left, suc-mul, mul-suc, mul-one, mul-zero}
 use native.Mathlib.Numerals.{add-one}
 use native.Mathlib.Omega.{arith}
-use Rattle.arith.specs.RootParts.{Near, Pattern}
-use Rattle.arith.proofs.RootValue.{pattern-even, pattern-odd}
-use Rattle.arith.proofs.RootWhole.{lo, hi, product-is}
+use Rattle.root.specs.RootParts.{Near, Pattern}
+use Rattle.root.proofs.RootValue.{pattern-even, pattern-odd}
+use Rattle.root.proofs.RootWhole.{lo, hi, product-is}
 
 -- the product before it
 before : (q : ℕ) → 0 < q → q * (q + 1) ≡ (q - 1) * (q - 1 + 1) + 2 * q

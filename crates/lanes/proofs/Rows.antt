@@ -7,8 +7,7 @@ use lib.ListN.{length, getD, set, replicate, getD-replicate}
 use lib.Seq.{getD-append-add}
 use lib.Ieee.{Float, nan, binary64, ofBits}
 use Rattle.arith.specs.Lists.{listOf, padded}
-use Rattle.arith.proofs.FallingLaws.{eight-filled}
-use Rattle.arith.proofs.Lists.{grown-at, grown-length, grown-read, grown-filled-set, filled-at, filled-length, list-same}
+use Rattle.arith.proofs.Lists.{grown-at, grown-length, grown-read, grown-filled-set, filled-at, filled-length, list-same, eight-filled}
 use Rattle.lanes.specs.Rows.{cell, eightOf, lanesOf, rowsOf, zeroRow}
 
 -- a row that is made whole

@@ -78,7 +78,7 @@ fn decays(r_sq: &[f64; 8]) -> [f64; 8]
 {
     let q = roots::scaled_roots(r_sq);
     let x = negated(&q);
-    let e = arith::exp_eight(&x);
+    let e = exponential::exp_eight(&x);
     polynomials(r_sq, &q, &e)
 }
 

@@ -5,8 +5,8 @@ ghost use Prim.Native.Nat.{ℕ, _+_, _*_, _^_, _≤_, _<_};
 ghost use lib.Dec.{T};
 ghost use lib.ListN.{getD};
 ghost use lib.Ieee.{nan, binary64, ofBits, lt};
-ghost use Rattle.arith.specs.RootParts.{Near, Pattern};
-ghost use Rattle.arith.specs.Sqrt.{sqrtOf};
+ghost use Rattle.root.specs.RootParts.{Near, Pattern};
+ghost use Rattle.root.specs.Sqrt.{sqrtOf};
 ghost use Rattle.kernel.specs.Matern.{scaledRootOf};
 ghost use Rattle.lanes.specs.Rows.{eightOf};
 
@@ -67,7 +67,7 @@ fn root(x: f64, guess: f64) -> f64
             }
         }
     }
-    arith::sqrt(x)
+    root::sqrt(x)
 }
 
 // x where it is above 0, else 1.

@@ -10,7 +10,7 @@ pub(crate) fn exp(args: &[u64], results: &mut Results) -> Reply
     if args.len() != 1 {
         return Reply::Unreadable;
     }
-    reply::outcome(arith::exp(arith::float_of_word(args[0])), results)
+    reply::outcome(exponential::exp(arith::float_of_word(args[0])), results)
 }
 
 pub(crate) fn ln(args: &[u64], results: &mut Results) -> Reply
@@ -28,7 +28,7 @@ pub(crate) fn sqrt(args: &[u64], results: &mut Results) -> Reply
     if args.len() != 1 {
         return Reply::Unreadable;
     }
-    reply::float(arith::sqrt(arith::float_of_word(args[0])), results)
+    reply::float(root::sqrt(arith::float_of_word(args[0])), results)
 }
 
 pub(crate) fn round(args: &[u64], results: &mut Results) -> Reply

@@ -20,7 +20,7 @@ use lib.Ieee.Positive.{positive, between, positive-finite, values-of-le}
 use lib.Ieee.Scale.{finite}
 use Rattle.arith.specs.declared.Outcome.the-variants.{Value}
 use Rattle.arith.specs.Bounds.{Within, Between}
-use Rattle.arith.specs.Exp.{H}
+use Rattle.arith.specs.Ln2.{H}
 use Rattle.logarithm.specs.Ln.{lnOf, normal, field, digits, mantissaOf, exponentOf, seriesOf, halvedOf, whole}
 use Rattle.arith.proofs.Tests.{taken, untaken, either}
 use Rattle.arith.proofs.Order as order

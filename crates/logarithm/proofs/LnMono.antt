@@ -18,7 +18,7 @@ use lib.Ieee.Scale.{finite}
 use Rattle.arith.specs.declared.Outcome.the-variants.{Value, Refused}
 use Rattle.arith.specs.Outcome.{pick, numberOf}
 use Rattle.arith.specs.Bounds.{real, Between}
-use Rattle.arith.specs.Exp.{H, L}
+use Rattle.arith.specs.Ln2.{H, L}
 use Rattle.logarithm.specs.Ln.{lnOf, normal, field, digits, mantissaOf, exponentOf, series, seriesOf, halvedOf, whole}
 use Rattle.arith.proofs.Tests.{taken, untaken}
 use Rattle.arith.proofs.Order as order

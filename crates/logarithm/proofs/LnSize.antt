@@ -12,7 +12,7 @@ use Rattle.arith.specs.Bounds.{abs, Within, Between, Sign}
 use Rattle.arith.proofs.Within.{within, upper, lower, mul-in, div-in, add-in, near-in, le-abs, within-finite}
 use Rattle.arith.proofs.Mono.{add-left, add-right, sub-left, mul-left}
 use Rattle.arith.proofs.Sign.{mul-sign, div-sign}
-use Rattle.arith.specs.Exp.{H, L}
+use Rattle.arith.specs.Ln2.{H, L}
 use Rattle.logarithm.specs.Ln.{seriesOf, series, whole}
 
 abbrev K : ℕ → Float

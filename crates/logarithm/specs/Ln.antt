@@ -7,7 +7,7 @@ use lib.Ieee.{Float, binary64, add, sub, mul, div, lt, ofInt, ofBits, toBits, mi
 use Rattle.arith.specs.declared.Outcome.{Outcome}
 use Rattle.arith.specs.declared.Outcome.the-variants.{Value, Refused}
 use Rattle.arith.specs.Outcome.{pick}
-use Rattle.arith.specs.Exp.{H, L}
+use Rattle.arith.specs.Ln2.{H, L}
 
 abbrev pub whole : ℕ → Float
 whole n = ofInt binary64 (pos n)

@@ -6,10 +6,10 @@ use mathlib.Core.List.{List, [], _∷_}
 use lib.IntN.{pos}
 use lib.ListN.{getD}
 use lib.Ieee.{binary64, ofBits, toBits, ofInt, toSigned, round, add, sub, mul, div, neg, le, lt, eq, isNan}
-use Rattle.arith.specs.Exp.{expOf, hornerOf, reducedOf, scaledOf, wholeOf}
+use Rattle.exponential.specs.Exp.{expOf, hornerOf, reducedOf, scaledOf, wholeOf}
 use Rattle.arith.specs.Lists.{every, grown, placeOf, placesOf}
 use Rattle.arith.specs.Rounding.{nearestOf, roundOf}
-use Rattle.arith.specs.Sqrt.{isqrt, rootOf, sqrtOf}
+use Rattle.root.specs.Sqrt.{isqrt, rootOf, sqrtOf}
 use Rattle.arith.specs.Sums.{sumOver}
 use Rattle.factor.specs.Cholesky.{columnsOf as factorColumns, choleskyOf}
 use Rattle.factor.specs.Triangle.{rowsOf, lessOf}

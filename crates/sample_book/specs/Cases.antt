@@ -5,11 +5,11 @@ use lib.IntN.{ℤ, pos, negsuc}
 use lib.Signed.{ltZ}
 use lib.Ieee.{binary64, ofBits, ofInt, toBits}
 use Rattle.arith.specs.declared.Outcome.the-variants.{Value}
-use Rattle.arith.specs.Exp.{expOf}
+use Rattle.exponential.specs.Exp.{expOf}
 use Rattle.logarithm.specs.Ln.{lnOf}
 use Rattle.arith.specs.Lists.{filled}
 use Rattle.arith.specs.Outcome.{wordOf}
-use Rattle.arith.specs.Sqrt.{sqrtOf}
+use Rattle.root.specs.Sqrt.{sqrtOf}
 use Rattle.distribution.specs.declared.Distribution.{Distribution}
 use Rattle.distribution.specs.declared.ParamValue.{ParamValue}
 use Rattle.common.specs.Decode.{fromInternalOf}

@@ -6,10 +6,10 @@ use lib.Ieee.{binary64, ofBits, toBits, round, add, sub, mul, div, neg, lt, le, 
 use Rattle.acquisition.specs.Improvement.{expectedImprovementOf}
 use Rattle.acquisition.specs.Normal.{normCdfOf, normPdfOf, polynomialOf, upperOf}
 use Rattle.arith.specs.Choice.{leastOfFirst}
-use Rattle.arith.specs.Exp.{expOf, hornerOf, reducedOf, scaledOf, wholeOf}
+use Rattle.exponential.specs.Exp.{expOf, hornerOf, reducedOf, scaledOf, wholeOf}
 use Rattle.arith.specs.Lists.{every, grown}
 use Rattle.arith.specs.Rounding.{nearestOf, roundOf}
-use Rattle.arith.specs.Sqrt.{isqrt, rootOf, sqrtOf}
+use Rattle.root.specs.Sqrt.{isqrt, rootOf, sqrtOf}
 use Rattle.arith.specs.Sums.{sumOver}
 use Rattle.factor.specs.Cholesky.{columnsOf, choleskyOf}
 use Rattle.factor.specs.Solve.{backwardOf, solveOf}

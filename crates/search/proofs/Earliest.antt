@@ -13,10 +13,9 @@ use lib.Ieee.{Float, nan, inf, fin, binary64, lt, le, ofBits}
 use Rattle.acquisition.proofs.Accepted.{improvement-accepts}
 use Rattle.arith.specs.Bounds.{real, Sign}
 use Rattle.arith.specs.Lists.{listOf, padded}
-use Rattle.arith.specs.Scan.{bestOf, bestAt, Best}
 use Rattle.arith.proofs.Lists.{grown-at, list-same}
 use Rattle.arith.proofs.Order as order
-use Rattle.arith.proofs.Scan.{best}
+use Rattle.arith.proofs.Scan.{best, bestOf, bestAt, Best}
 use Rattle.rng_util.specs.Draws.{unitOf}
 use Rattle.rng_util.specs.Generator.{movedOf, streamOf}
 use Rattle.rng_util.proofs.Stream.{moved-add, stream-at}

@@ -14,7 +14,7 @@ use Rattle.acquisition.specs.Improvement.{expectedImprovementOf}
 use Rattle.arith.specs.Choice.{positivePart}
 use Rattle.arith.specs.Lists.{padded}
 use Rattle.arith.specs.Outcome.{valueOf}
-use Rattle.arith.specs.Sqrt.{sqrtOf}
+use Rattle.root.specs.Sqrt.{sqrtOf}
 use Rattle.arith.specs.Sums.{sumOver, products}
 use Rattle.arith.proofs.Lists.{grown-at, grown-length, padded-at, padded-length}
 use Rattle.factor.specs.Solve.{solveOf}

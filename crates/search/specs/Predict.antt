@@ -8,7 +8,7 @@ use lib.ListN.{length, take}
 use lib.Ieee.{Float, binary64, sub, ofBits, ofInt}
 use Rattle.arith.specs.Choice.{positivePart}
 use Rattle.arith.specs.Lists.{listOf, padded}
-use Rattle.arith.specs.Sqrt.{sqrtOf}
+use Rattle.root.specs.Sqrt.{sqrtOf}
 use Rattle.arith.specs.Sums.{products}
 use Rattle.factor.specs.Solve.{solveOf}
 use Rattle.gp_model.specs.declared.Model.{Model}

@@ -7,7 +7,7 @@ ghost use lib.Ieee.{nan, binary64, sub, ofInt};
 ghost use Rattle.acquisition.specs.Improvement.{expectedImprovementOf};
 ghost use Rattle.arith.specs.Choice.{positivePart};
 ghost use Rattle.arith.specs.Outcome.{valueOf};
-ghost use Rattle.arith.specs.Sqrt.{sqrtOf};
+ghost use Rattle.root.specs.Sqrt.{sqrtOf};
 ghost use Rattle.lanes.specs.Rows.{eightOf, laneOf};
 ghost use Rattle.rng_util.proofs.Nonzero.{Nonzero};
 ghost use Rattle.search.specs.Eights.{Words, startsOf, columnOf, pointsOf, keptEachOf};
@@ -76,7 +76,7 @@ fn improvements(means: &[f64; 8], products: &[f64; 8], f_best: f64) -> [f64; 8]
     let mut out = [0.0; 8];
     let mut p = 0;
     while p < 8 {
-        let std = arith::sqrt(arith::positive_part(1.0 - products[p]));
+        let std = root::sqrt(arith::positive_part(1.0 - products[p]));
         out[p] = acquisition::expected_improvement(means[p], std, f_best);
         p += 1;
     }

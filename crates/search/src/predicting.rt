@@ -55,7 +55,7 @@ pub(crate) fn posterior<'a, 'b>(
     let solved = factor::solve(cholesky, &k, n);
     let v = solved.x;
     let var = 1.0 - dot(&k, &v, n);
-    let std = arith::sqrt(arith::positive_part(var));
+    let std = root::sqrt(arith::positive_part(var));
     Posterior { mean, std }
 }
 

@@ -1,7 +1,7 @@
 -- Laws of the digits: a byte and its value, then, over the number of digits, that the digits of a number and the number of digits undo each other. By induction.
 use Prim.Native.Nat.{ℕ, zero, suc, _+_, _-_, _*_, _/_, _%_, _^_, _≤_, _<_}
 use mathlib.Core.Path.{_≡_, refl, sym, ap, ap₂, _∙_}
-use mathlib.Core.Bool.{Bool, true, false, _&&_, and-assoc, and-false, false≢true}
+use mathlib.Core.Bool.{Bool, true, false, _&&_, and-assoc, and-false, and-eq-true-iff}
 use mathlib.Core.List.{List, [], _∷_, _++_, append-assoc, append-nil}
 use native.Mathlib.Decide.{decLe, decLt}
 use native.Mathlib.Nat.{zero-add, add-zero, mul-one, mul-assoc, add-mul, pow-suc, pow-succ', div-lt-iff-lt-mul, lt-of-lt-of-le, pow-le-pow-right}
@@ -84,23 +84,19 @@ of-last (suc k) n h =
     rw (of-append, of-last k (n / 16) (div-lt-iff-lt-mul (omega arith) .1 (rw pow-suc at h)), value-digit (n % 16) (omega arith))
     (omega arith)
 
-both : (a b : Bool) → (a && b) ≡ true → (a ≡ true) × (b ≡ true)
-both true b h = (refl, h)
-both false b h = absurd (false≢true h)
-
 -- the number of k digits is below 16 ^ k, and its last k digits are these
 pub of-below : (s : List ℕ) → allDigits s ≡ true → ofDigits s < 16 ^ length s
 unfolding allDigits ofDigits
 of-below [] h = omega arith
 of-below (b ∷ s) h =
-    let d = both (ltb (valueOf b) 16) (allDigits s) h in
+    let d = and-eq-true-iff (ltb (valueOf b) 16) (allDigits s) .0 h in
     rw pow-succ' (digits-lt (ltb-true (valueOf b) 16 (d .0)) (of-below s (d .1)))
 
 last-after : (s : List ℕ) (k m : ℕ) → allDigits s ≡ true → lastDigits (k + length s) (m * 16 ^ length s + ofDigits s) ≡ lastDigits k m ++ s
 unfolding allDigits ofDigits lastDigits
 last-after [] k m h = rw (add-zero k, add-zero (m * 1), mul-one m, append-nil (lastDigits k m))
 last-after (b ∷ s) k m h =
-    let d = both (ltb (valueOf b) 16) (allDigits s) h in
+    let d = and-eq-true-iff (ltb (valueOf b) 16) (allDigits s) .0 h in
     let v : valueOf b < 16 = ltb-true (valueOf b) 16 (d .0) in
     let places : k + suc (length s) ≡ suc k + length s = omega arith in
     let number : m * 16 ^ suc (length s) + (valueOf b * 16 ^ length s + ofDigits s) ≡ (m * 16 + valueOf b) * 16 ^ length s + ofDigits s =

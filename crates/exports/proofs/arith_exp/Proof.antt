@@ -1,6 +1,6 @@
 -- `exports::arith_exp` meets its contract. Assumes nothing.
 use mathlib.Core.Path.{ap, _∙_}
-use Rattle.arith.specs.Exp.{expOf}
+use Rattle.exponential.specs.Exp.{expOf}
 use Rattle.exports.specs.Told.{toldOf}
 use borrow.Author.Needs.{needs}
 use Rattle.exports.proofs.arith_exp.Statement.{statement}

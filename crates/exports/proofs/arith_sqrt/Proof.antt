@@ -1,7 +1,7 @@
 -- `exports::arith_sqrt` meets its contract. Assumes nothing.
 use mathlib.Core.Path.{ap, _∙_}
 use lib.Ieee.{binary64, toBits}
-use Rattle.arith.specs.Sqrt.{sqrtOf}
+use Rattle.root.specs.Sqrt.{sqrtOf}
 use borrow.Author.Needs.{needs}
 use Rattle.exports.proofs.arith_sqrt.Statement.{statement}
 use Rattle.exports.proofs.arith_sqrt.Tie as tie

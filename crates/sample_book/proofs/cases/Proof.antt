@@ -1,11 +1,11 @@
 -- `sample_book::cases` meets its contract: each case is computed. Assumes nothing.
 use mathlib.Core.Path.{refl}
 use lib.Ieee.{ofBits, toBits, round, add, sub, mul, div, neg, lt, le, isNan, ofInt, toSigned}
-use Rattle.arith.specs.Exp.{expOf, hornerOf, reducedOf, scaledOf, wholeOf}
+use Rattle.exponential.specs.Exp.{expOf, hornerOf, reducedOf, scaledOf, wholeOf}
 use Rattle.logarithm.specs.Ln.{lnOf, normal, field, digits, mantissaOf, exponentOf, halvedOf, seriesOf, series}
 use Rattle.arith.specs.Lists.{grown, every}
 use Rattle.arith.specs.Rounding.{nearestOf, roundOf}
-use Rattle.arith.specs.Sqrt.{sqrtOf}
+use Rattle.root.specs.Sqrt.{sqrtOf}
 use Rattle.distribution.specs.Equal.{equalOf, intEqual}
 use Rattle.distribution.specs.Taken.{takenOf, valueOf, intTaken}
 use Rattle.distribution_words.specs.Words.{readOf, checkedOf, intRead}

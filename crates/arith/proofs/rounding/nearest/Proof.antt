@@ -1,4 +1,4 @@
--- `expo::nearest_mag` meets its contract: twice t is exact, and its whole part, with one added, halved, is the nearest whole number (`Nearest.antt`). Assumes nothing.
+-- `arith::rounding::nearest` meets its contract: twice t is exact, and its whole part, with one added, halved, is the nearest whole number (`Nearest.antt`). Assumes nothing.
 use mathlib.Core.Path.{_≡_, ap, _∙_}
 use mathlib.Core.Bool.{not}
 use Prim.Native.Nat.{ℕ, _+_, _/_, _^_, _≤_}

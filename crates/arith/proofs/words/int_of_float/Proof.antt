@@ -1,7 +1,7 @@
 -- `words::int_of_float` meets its contract: the definition by its cases, at each end and between them. Assumes nothing.
 use mathlib.Core.Path.{_≡_, refl, sym, ap}
 use mathlib.Core.Logic.{inl, inr}
-use Prim.Native.Nat.{ℕ, _+_, _-_, _*_, _/_, _^_, _≤_, _<_, min}
+use Prim.Native.Nat.{ℕ, _-_, _*_, _/_, _^_, _≤_, min}
 use native.Mathlib.Nat.{le-of-lt, le-trans, le-of-eq, mul-one, one-mul, mul-pos, le-div-iff-mul-le}
 use native.Mathlib.Omega.{arith}
 use mathlib.Core.Bool.{true, false, not}
@@ -42,10 +42,7 @@ unfolding le lt toSigned
 largest h nan k = absurd k
 largest h (inf true) k = absurd k
 largest h (inf false) k = refl
-largest h (fin true m e) k = absurd (no (1 * 2 ^ h * down e) (m * up e * 1) (mul-pos (mul-pos (pow-pos 0) (pow-pos h)) (down-pos e)) (le→ false (1 * 2 ^ h * down e) true (m * up e * 1) k))
-  where
-    no : (a b : ℕ) → 0 < a → a + b ≤ 0 → ⊥
-    no a b p q = omega arith
+largest h (fin true m e) k = let p = mul-pos (mul-pos (pow-pos 0) (pow-pos h)) (down-pos e) in let q = le→ false (1 * 2 ^ h * down e) true (m * up e * 1) k in absurd (omega arith)
 largest h (fin false m e) k = ap pos (sym (before-end (m * up e / down e) (2 ^ h) (whole h m e (le→ false (1 * 2 ^ h * down e) false (m * up e * 1) k))))
 
 between : (x y : Float) → real x → real y → T (not (le y x)) → T (lt x y)

@@ -4,7 +4,7 @@ use mathlib.Core.Bool.{true≢false}
 use native.Mathlib.Nat.{le-trans}
 use native.Mathlib.Omega.{arith}
 use borrow.Author.Tests.{ltb-true}
-use Rattle.arith.proofs.RootWhole.{part-bounds}
+use Rattle.root.proofs.RootWhole.{part-bounds}
 use Rattle.lanes.proofs.NearRoot.{near-by}
 use borrow.Author.Needs.{needs}
 use Rattle.lanes.proofs.roots.is_nearest.Statement.{statement}

@@ -3,7 +3,7 @@ use mathlib.Core.Path.{_≡_, sym, subst}
 use mathlib.Core.Bool.{true≢false}
 use Prim.Native.Nat.{ℕ, _+_, _-_, _*_, _/_, _%_}
 use native.Mathlib.Omega.{arith}
-use Rattle.arith.specs.RootParts.{Pattern}
+use Rattle.root.specs.RootParts.{Pattern}
 use Rattle.lanes.proofs.NearRoot.{near-pattern, no-more}
 use borrow.Author.Needs.{needs}
 use Rattle.lanes.proofs.roots.is_root.Statement.{statement}

@@ -3,10 +3,10 @@ use mathlib.Core.Path.{_≡_, refl, sym, subst}
 use Prim.Native.Nat.{ℕ, suc, _+_, _-_, _/_, _%_}
 use native.Mathlib.Omega.{arith}
 use lib.Ieee.{binary64, toBits}
-use Rattle.arith.specs.RootParts.{Pattern}
+use Rattle.root.specs.RootParts.{Pattern}
 use Rattle.arith.proofs.Order.{le-of-lt, le-real}
 use Rattle.arith.proofs.Patterns.{no-nan}
-use Rattle.arith.proofs.RootTop.{at-high}
+use Rattle.root.proofs.RootTop.{at-high}
 use Rattle.arith.proofs.Tests.{taken}
 use borrow.Author.Needs.{needs}
 use Rattle.lanes.proofs.roots.root.Statement.{statement}

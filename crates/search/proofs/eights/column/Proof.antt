@@ -6,9 +6,8 @@ use native.Mathlib.Omega.{arith}
 use lib.ListN.{getD}
 use lib.Ieee.{binary64, ofBits}
 use Rattle.arith.specs.Lists.{grown, listOf, filled, padded}
-use Rattle.arith.proofs.Lists.{grown-set, grown-filled-set}
+use Rattle.arith.proofs.Lists.{grown-set, grown-filled-set, eight-filled}
 use Rattle.rng_util.specs.Draws.{unitDrawOf}
-use Rattle.arith.proofs.FallingLaws.{eight-filled}
 use borrow.Author.Needs.{needs}
 use Prim.Native.Nat.{_-_, _≤_}
 use mathlib.Core.Path.{_≡_, refl}
@@ -19,7 +18,6 @@ use lib.Ieee.{ofBits}
 use Rattle.arith.specs.Lists.{grown, listOf, filled, padded}
 use Rattle.arith.proofs.Lists.{grown-set, grown-filled-set}
 use Rattle.rng_util.specs.Draws.{unitDrawOf}
-use Rattle.arith.proofs.FallingLaws.{eight-filled}
 use Rattle.search.proofs.eights.column.Statement.{statement}
 use Rattle.search.proofs.eights.column.Tie as tie
 

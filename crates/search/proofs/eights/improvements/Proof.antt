@@ -10,9 +10,8 @@ use Rattle.acquisition.specs.Improvement.{expectedImprovementOf}
 use Rattle.arith.specs.Choice.{positivePart}
 use Rattle.arith.specs.Lists.{grown, listOf, padded}
 use Rattle.arith.specs.Outcome.{valueOf}
-use Rattle.arith.specs.Sqrt.{sqrtOf}
-use Rattle.arith.proofs.Lists.{grown-set}
-use Rattle.arith.proofs.FallingLaws.{eight-filled}
+use Rattle.root.specs.Sqrt.{sqrtOf}
+use Rattle.arith.proofs.Lists.{grown-set, eight-filled}
 use borrow.Author.Needs.{needs}
 use Prim.Native.Nat.{_-_, _≤_}
 use mathlib.Core.Path.{_≡_, refl, ap}
@@ -25,9 +24,7 @@ use Rattle.acquisition.specs.Improvement.{expectedImprovementOf}
 use Rattle.arith.specs.Choice.{positivePart}
 use Rattle.arith.specs.Lists.{grown, listOf, padded}
 use Rattle.arith.specs.Outcome.{valueOf}
-use Rattle.arith.specs.Sqrt.{sqrtOf}
 use Rattle.arith.proofs.Lists.{grown-set}
-use Rattle.arith.proofs.FallingLaws.{eight-filled}
 use Rattle.search.proofs.eights.improvements.Statement.{statement}
 use Rattle.search.proofs.eights.improvements.Tie as tie
 

@@ -4,10 +4,9 @@ use mathlib.Core.Path.{_≡_, refl}
 use native.Mathlib.Numerals.{add-one}
 use native.Mathlib.Omega.{arith}
 use Rattle.arith.specs.Lists.{grown, listOf, filled}
-use Rattle.arith.proofs.Lists.{grown-filled-set}
+use Rattle.arith.proofs.Lists.{grown-filled-set, eight-filled}
 use Rattle.rng_util.specs.Generator.{movedOf}
 use Rattle.rng_util.proofs.Nonzero.{moved-nonzero}
-use Rattle.arith.proofs.FallingLaws.{eight-filled}
 use Rattle.search.proofs.Beside.{word-after}
 use borrow.Author.Needs.{needs}
 use Rattle.search.proofs.eights.starts.Statement.{statement}

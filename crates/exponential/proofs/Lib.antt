@@ -1,0 +1,5 @@
+pub mod ExpLaws
+mod ExpRange
+mod FallingLaws
+mod HornerRange
+mod Remainder

@@ -1,0 +1,3 @@
+pub mod RootParts
+pub mod Rooted
+pub mod Sqrt
