@@ -1,14 +1,18 @@
 -- The tests at small histories, computed. Assumes nothing.
 use Prim.Native.Nat.{ℕ, zero, suc}
 use mathlib.Core.Path.{_≡_, refl}
+use mathlib.Core.Bool.{true, false}
 use mathlib.Core.List.{List, [], _∷_, _++_}
 use lib.ListN.{replicate}
 use lib.Ieee.{ofBits, neg, le, lt, eq}
-use Rattle.arith.specs.Lists.{every}
+use Rattle.arith.specs.Lists.{every, placeOf}
 use Rattle.distribution.specs.Equal.{equalOf, floatEqual, intEqual}
 use Rattle.distribution.specs.Shape.{shapeOf, floatStep}
 use Rattle.distribution.specs.Taken.{takenOf, valueOf, floatTaken, intTaken}
 use Rattle.distribution_words.specs.Words.{readOf, checkedOf, floatRead, intRead, categoricalRead}
+use Rattle.history_rows.specs.First.{firstRowWith, likeFirst, rowLikeFirst}
+use Rattle.history_rows.specs.Recent.{recentPart}
+use Rattle.history_rows.specs.Slots.{slotWith, slotPlace}
 use Rattle.history_rows.specs.Rows.{wholeRows, rowCount, recentCount, recentOf}
 use Rattle.history_rows.specs.Tests.{rowOk, slotsOk, idsOnce, rowsAgreeing, recentTests, refusalOf}
 use Rattle.slots.specs.Slot.{slotRead, slotOk, agreeing}
@@ -52,3 +56,38 @@ Older = (refusalOf 1 (row 4 absent ++ rows 100) ≡ 0) × (refusalOf 1 (row 4 ab
 older : Older
 unfolding refusalOf recentTests wholeRows rowCount recentCount recentOf rowOk slotRead slotOk agreeing slotsOk idsOnce rowsAgreeing every ofBits neg le
 older = (refl, refl)
+
+-- where a slot is by its id: an absent slot has none, and words that are no row of at most 20 slots have none
+abbrev Places : Type 0
+Places =
+    (slotPlace 2 (row 0 (slot 9 9 5 ++ slot 4 9 5)) 4 ≡ 1)
+    × (slotPlace 2 (row 0 (slot 9 9 5 ++ absent)) 0 ≡ 2)
+    × (slotPlace 2 (row 0 (slot 9 9 5)) 9 ≡ 2)
+    × (slotPlace 21 (row 0 (slot 9 9 5)) 9 ≡ 21)
+
+places : Places
+unfolding slotPlace slotWith placeOf
+places = (refl, refl, refl, refl)
+
+-- the last hundred rows start behind the others
+abbrev Parts : Type 0
+Parts =
+    (recentPart 1 (rows 102) ≡ record { start = 22; rows = 100 })
+    × (recentPart 1 (rows 3) ≡ record { start = 0; rows = 3 })
+    × (recentPart 21 (rows 3) ≡ record { start = 0; rows = 0 })
+
+parts : Parts
+unfolding recentPart wholeRows rowCount recentCount recentOf
+parts = (refl, refl, refl)
+
+-- an id is first in the second row; a slot that differs from the first of its id, and an absent one
+abbrev Firsts : Type 0
+Firsts =
+    (firstRowWith 1 2 (row 0 absent ++ row 0 (slot 9 9 5)) 9 ≡ 1)
+    × (firstRowWith 1 2 (row 0 absent ++ row 0 (slot 9 9 5)) 4 ≡ 2)
+    × (rowLikeFirst 1 2 (row 0 (slot 9 9 5) ++ row 0 (slot 9 8 5)) (row 0 (slot 9 8 5)) ≡ false)
+    × (rowLikeFirst 1 2 (row 0 (slot 9 9 5) ++ row 0 absent) (row 0 absent) ≡ true)
+
+firsts : Firsts
+unfolding rowLikeFirst likeFirst firstRowWith slotWith placeOf slotRead every equalOf intEqual shapeOf readOf checkedOf intRead ofBits neg le lt eq
+firsts = (refl, refl, refl, refl)

@@ -1,9 +1,7 @@
+mod Cases
 pub mod Backward
-pub mod DecayRow
 pub mod Forward
-pub mod KernelRow
 pub mod Less
-pub mod NearRoot
 pub mod Rows
 pub mod Solved
 pub mod Summed

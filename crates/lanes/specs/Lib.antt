@@ -1,4 +1,3 @@
-pub mod Kernels
 pub mod Rows
 pub mod Solving
 pub mod Sums

@@ -1,10 +1,7 @@
 // Eight lists side by side: a row has one element of each. A function works on the eight at once, each in its own order of operations.
-pub mod kernels;
-pub mod roots;
 pub mod solving;
 pub mod sums;
 
-pub use kernels::kernel_vectors;
 pub use solving::solve;
 pub use sums::dot;
 pub use sums::dot_each;

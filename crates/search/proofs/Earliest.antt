@@ -25,7 +25,7 @@ use Rattle.search.specs.Earliest.{drawnOf, Earliest}
 use Rattle.search.specs.Predict.{posteriorAt}
 use Rattle.search.specs.Search.{pointOf, scoreOf, startOf, candidateOf, advanceOf, foundOf, searchDomain, optimizeAcquisitionOf}
 use Rattle.search.proofs.Domain.{search-columns}
-use Rattle.lanes.proofs.KernelRow.{row-end}
+use Rattle.lane_kernels.proofs.KernelRow.{row-end}
 
 -- ---- scores
 pub score-real : (m : Model) (p : List Float) → real (scoreOf m p)

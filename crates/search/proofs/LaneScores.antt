@@ -18,11 +18,11 @@ use Rattle.root.specs.Sqrt.{sqrtOf}
 use Rattle.arith.specs.Sums.{sumOver, products}
 use Rattle.arith.proofs.Lists.{grown-at, grown-length, padded-at, padded-length}
 use Rattle.factor.specs.Solve.{solveOf}
-use Rattle.lanes.specs.Kernels.{kernelRowsOf, kernelLanesOf}
+use Rattle.lane_kernels.specs.Kernels.{kernelRowsOf, kernelLanesOf}
 use Rattle.lanes.specs.Rows.{cell, eightOf, laneOf, lanesOf, rowsOf}
 use Rattle.lanes.specs.Solving.{solveLanesOf}
 use Rattle.lanes.specs.Sums.{dotLanesOf, dotEachOf}
-use Rattle.lanes.proofs.KernelRow.{sum-same}
+use Rattle.lane_kernels.proofs.KernelRow.{sum-same}
 use Rattle.lanes.proofs.Rows.{eight-at, eight-same, lanes-at, row-at, row-past}
 use Rattle.gp_model.specs.Kernels.{rowOf, similarityOf}
 use Rattle.search.specs.Predict.{kernelVectorOf, posteriorMeanOf, posteriorStdOf}

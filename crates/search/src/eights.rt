@@ -97,7 +97,7 @@ fn scores<'a, 'b>(
     requires { ⌜ (n ≤ 100) × (d ≤ 20) × (n * d ≤ length (now «x_train»)) × (d ≤ length (now lengthscales)) × (n ≤ length (now alpha)) ⌝ }
     ensures { λ r. ⌜ r ≡ eightOf (λ (p : ℕ). scoreOf (partsOf (now («x_train» .entry)) (now (lengthscales .entry)) (now (cholesky .entry)) (now (alpha .entry)) «f_best» n d) (laneOf (now (points .entry)) d p)) ⌝ }
 {
-    let k = lanes::kernel_vectors(points, x_train, n, d, &lengthscales[0..d]);
+    let k = lane_kernels::kernel_vectors(points, x_train, n, d, &lengthscales[0..d]);
     let means = lanes::dot_each(&k, alpha, n);
     let v = lanes::solve(cholesky, &k, n);
     let products = lanes::dot(&k, &v, n);

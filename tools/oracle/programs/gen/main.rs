@@ -1,6 +1,6 @@
 //! `gen NAME COUNT SEED [--from N] [--skip-edges] [--unreadable PERCENT]`: writes lines of leaf calls.
 //! `gen --names`: writes the names of the leaves.
-//! `gen --searches COLUMNS CANDIDATES COUNT`: writes searches to be timed.
+//! `gen --searches ROWS COLUMNS CANDIDATES COUNT`: writes searches to be timed.
 //! `gen --pairs COUNT SEED [--from N]`: writes pairs of lines of `run` with equal answers.
 //! `gen --texts COUNT SEED [--from N]`: writes texts of `propose`, edges first, as `frames` has them,
 //! and on standard error how many are damaged copies. `gen --stored-texts`: writes those that are stored.
@@ -183,8 +183,8 @@ fn write_lines(options: &Options) -> io::Result<()> {
 fn write_searches(arguments: impl Iterator<Item = String>) -> Option<io::Result<()>> {
     let numbers: Vec<u64> =
         arguments.map(|argument| argument.parse().ok()).collect::<Option<_>>()?;
-    let &[columns, candidates, count] = &numbers[..] else { return None };
-    let search = |number| line(SEARCH, &searches::timed(columns, candidates, number));
+    let &[rows, columns, candidates, count] = &numbers[..] else { return None };
+    let search = |number| line(SEARCH, &searches::timed(rows, columns, candidates, number));
     let text: Vec<u8> =
         (0..count).flat_map(|number| [search(number), vec![b'\n']].concat()).collect();
     Some(io::stdout().write_all(&text))
@@ -253,7 +253,7 @@ fn main() -> io::Result<()> {
     };
     written.unwrap_or_else(|| {
         eprintln!("usage: gen NAME COUNT SEED [--from N] [--skip-edges] [--unreadable PERCENT]");
-        eprintln!("   or: gen --names, gen --searches COLUMNS CANDIDATES COUNT");
+        eprintln!("   or: gen --names, gen --searches ROWS COLUMNS CANDIDATES COUNT");
         eprintln!("   or: gen --pairs COUNT SEED [--from N], gen --texts COUNT SEED [--from N]");
         eprintln!("   or: gen --stored-texts");
         std::process::exit(2);

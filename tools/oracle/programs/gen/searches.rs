@@ -9,9 +9,6 @@ use training::MAX_COORDINATE;
 
 const CANDIDATES: &[u64] = &[0, 1, 2, 3, 10, 30];
 
-/// Rows of the largest fit, as timed.
-const TIMED_ROWS: u64 = 100;
-
 pub fn edges() -> Vec<Vec<u64>> {
     let lists = [
         with_candidates(&predictions::ordinary()),
@@ -81,10 +78,10 @@ pub fn random(rng: &mut SplitMix64) -> Vec<u64> {
     words(&fit, candidates, state)
 }
 
-/// A search to be timed: the largest ordinary fit, differing by its number.
-pub fn timed(columns: u64, candidates: u64, number: u64) -> Vec<u64> {
+/// A search to be timed: an ordinary fit of so many rows and columns, differing by its number.
+pub fn timed(rows: u64, columns: u64, candidates: u64, number: u64) -> Vec<u64> {
     let mut rng = SplitMix64::for_line(1, number);
-    let fit = Fit::ordinary(&mut rng, TIMED_ROWS, columns);
+    let fit = Fit::ordinary(&mut rng, rows, columns);
     words(&fit, candidates, rng.next_word() | 1)
 }
 

@@ -8,7 +8,7 @@ use lib.Ieee.{ofBits}
 use Rattle.arith.specs.Lists.{grown, padded}
 use Rattle.arith.proofs.Lists.{grown-set}
 use Rattle.gp_model.specs.Kernels.{rowOf, similarityOf}
-use Rattle.lanes.proofs.KernelRow.{row-end}
+use Rattle.lane_kernels.proofs.KernelRow.{row-end}
 use Rattle.search.specs.Predict.{kernelVectorOf}
 use borrow.Author.Needs.{needs}
 use Rattle.search.proofs.predicting.kernel_vector.Statement.{statement}

@@ -1,0 +1,4 @@
+mod Cases
+pub mod DecayRow
+pub mod KernelRow
+mod NearRoot
