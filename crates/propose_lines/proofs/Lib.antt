@@ -1,3 +1,4 @@
 pub mod AnswerLine
+mod Cases
 mod SlotNames
 pub mod Stored

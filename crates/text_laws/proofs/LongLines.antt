@@ -24,7 +24,8 @@ unfolding slotsNames
 slots-length zero = refl
 slots-length (suc n) = let a = length-append slotNames (slotsNames n) in let b = slots-length n in omega arith
 
-module _ (r : Reading) (line : List ℕ) (long : 2770 < length line) where
+-- longer than a row of 20 slots, with 163 words
+module _ (r : Reading) (line : List ℕ) (long : 17 * 163 ≤ length line) where
   few : Dec (slotsOf (r .sampler) ≤ 20) → (leb (slotsOf (r .sampler)) 20 && sameBytes line (historyNames (slotsOf (r .sampler)))) ≡ false
   few (yes p) =
       let a = length-append rowNames (slotsNames (slotsOf (r .sampler))) in
@@ -32,20 +33,22 @@ module _ (r : Reading) (line : List ℕ) (long : 2770 < length line) where
       rw (le-leb (slotsOf (r .sampler)) 20 p) (differ line (historyNames (slotsOf (r .sampler))) (λ e. omega arith))
   few (no p) = rw (lt-leb (slotsOf (r .sampler)) 20 (omega arith))
 
-  row : Dec (slotsOf (r .sampler) ≤ 20) → (b : Bool) → (leb (slotsOf (r .sampler)) 20 && b && isWords (rowWords (slotsOf (r .sampler))) line) ≡ false
-  row (yes p) true = rw (le-leb (slotsOf (r .sampler)) 20 p) (not-words (rowWords (slotsOf (r .sampler))) line (λ e. omega arith))
-  row (yes p) false = rw (le-leb (slotsOf (r .sampler)) 20 p)
-  row (no p) b = rw (lt-leb (slotsOf (r .sampler)) 20 (omega arith))
+  -- no row is so long
+  row : Dec (slotsOf (r .sampler) ≤ 20) → (b : Bool) → leb (length (r .history) + rowWords (slotsOf (r .sampler))) 8192 ≡ b → rowLine r line ≡ ends 14 r
+  unfolding rowLine
+  row (yes p) true e = rw (le-leb (slotsOf (r .sampler)) 20 p, e, not-words (rowWords (slotsOf (r .sampler))) line (λ q. omega arith))
+  row (yes p) false e = rw (le-leb (slotsOf (r .sampler)) 20 p, e)
+  row (no p) b e = rw (lt-leb (slotsOf (r .sampler)) 20 (omega arith))
 
   at-stage : (stage : Stage) → (stage ≡ Stage.Ended → ⊥) → lineAt stage r line ≡ ends 14 r
-  unfolding settingsLine historyLine rowLine callLine
+  unfolding settingsLine historyLine callLine
   at-stage Stage.SettingsNames h = rw (differ line settingsNames (λ e. let n : length line ≡ 35 = e in omega arith))
   at-stage Stage.Settings h = rw (not-words 5 line (λ e. omega arith))
   at-stage Stage.HistoryNames h = rw (few (decLe (slotsOf (r .sampler)) 20))
-  at-stage Stage.History h = rw (differ line callNames (λ e. let n : length line ≡ 36 = e in omega arith), row (decLe (slotsOf (r .sampler)) 20) (leb (length (r .history) + rowWords (slotsOf (r .sampler))) 8192))
+  at-stage Stage.History h = rw (differ line callNames (λ e. let n : length line ≡ 36 = e in omega arith)) (row (decLe (slotsOf (r .sampler)) 20) _ refl)
   at-stage Stage.Calls h = rw (not-words 7 line (λ e. omega arith))
   at-stage Stage.Ended h = absurd (h refl)
 
 pub long-lines : LongLines
 unfolding stepOf
-long-lines r line h long = at-stage r line long (r .stage) h
+long-lines r line h long = at-stage r line (omega arith) (r .stage) h

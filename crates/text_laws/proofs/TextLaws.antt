@@ -106,10 +106,16 @@ refused ws rest w out =
 -- ---- malformed before the calls begin
 
 -- a line that is none of the history's: 14
-history-malformed : (s : Sampler) (h line : List ℕ) → sameBytes line callNames ≡ false → (leb (slotsOf s) 20 && leb (length h + rowWords (slotsOf s)) 8192 && isWords (rowWords (slotsOf s)) line) ≡ false
+history-malformed : (s : Sampler) (h line : List ℕ) → slotsOf s ≤ 20 → leb (length h + rowWords (slotsOf s)) 8192 ≡ true → sameBytes line callNames ≡ false → isWords (rowWords (slotsOf s)) line ≡ false
     → stepOf (at Stage.History s h) line ≡ ends 14 (at Stage.History s h)
 unfolding stepOf historyLine rowLine
-history-malformed s h line e f = rw (e, f)
+history-malformed s h line few room e f = rw (e, le-leb (slotsOf s) 20 few, room, f)
+
+-- a row for which there is no room: 14
+history-full : (s : Sampler) (h line : List ℕ) → slotsOf s ≤ 20 → leb (length h + rowWords (slotsOf s)) 8192 ≡ false → sameBytes line callNames ≡ false
+    → stepOf (at Stage.History s h) line ≡ ends 14 (at Stage.History s h)
+unfolding stepOf historyLine rowLine
+history-full s h line few room e = rw (e, le-leb (slotsOf s) 20 few, room)
 
 history-unfinished : (s : Sampler) (h rest : List ℕ) → finishOf (at Stage.History s h) rest .written ≡ line14
 unfolding finishOf
@@ -140,18 +146,17 @@ module _ (s : Sampler) (h text line rest : List ℕ) (few : slotsOf s ≤ 20) (p
   unfolding NoRows Table joined linesOf
   a-history-line room = named (sameBytes line callNames) refl
     where
-      fits : Bool
-      fits = leb (slotsOf s) 20 && leb (length h + rowWords (slotsOf s)) 8192
+      ended-here : stepOf (at Stage.History s h) line ≡ ends 14 (at Stage.History s h) → readOf (at Stage.History s h) [] text ≡ line14
+      ended-here e = ap (readOf (at Stage.History s h) []) q ∙ last-line (at Stage.History s h) line rest 14 p e
 
-      judged : sameBytes line callNames ≡ false → (x : Bool) → (fits && isWords (rowWords (slotsOf s)) line) ≡ x → readOf (at Stage.History s h) [] text ≡ line14
-      judged e true i =
-          let b = both fits (isWords (rowWords (slotsOf s)) line) i in
-          a-row (leb-true _ 8192 (both (leb (slotsOf s) 20) (leb (length h + rowWords (slotsOf s)) 8192) (b .0) .1)) (b .1)
-      judged e false i = ap (readOf (at Stage.History s h) []) q ∙ last-line (at Stage.History s h) line rest 14 p (history-malformed s h line e i)
+      judged : sameBytes line callNames ≡ false → (b : Bool) → leb (length h + rowWords (slotsOf s)) 8192 ≡ b → (x : Bool) → isWords (rowWords (slotsOf s)) line ≡ x → readOf (at Stage.History s h) [] text ≡ line14
+      judged e true fit true i = a-row (leb-true _ 8192 fit) i
+      judged e true fit false i = ended-here (history-malformed s h line few fit e i)
+      judged e false fit x i = ended-here (history-full s h line few fit e)
 
       named : (x : Bool) → sameBytes line callNames ≡ x → readOf (at Stage.History s h) [] text ≡ line14
       named true e = absurd (f [] rest tt (omega arith) (q ∙ ap (λ (l : List ℕ). ended l ++ rest) (same-equal line callNames e)))
-      named false e = judged e (fits && isWords (rowWords (slotsOf s)) line) refl
+      named false e = judged e _ refl _ refl
 
 one-line : (s : Sampler) (h text : List ℕ) → slotsOf s ≤ 20 → length h ≤ 8192 → NoRows s h text → Cut text
     → ((line rest : List ℕ) → text ≡ ended line ++ rest → (ws : List ℕ) → length (h ++ ws) ≤ 8192 → NoRows s (h ++ ws) rest → readOf (at Stage.History s (h ++ ws)) [] rest ≡ line14)
