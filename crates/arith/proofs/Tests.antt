@@ -1,7 +1,7 @@
 -- From the outcome of a test in the code to the fact, and both cases of a test. Assumes nothing.
 use mathlib.Core.Path.{_≡_, refl, sym, subst}
 use mathlib.Core.Logic.{_⊎_, inl, inr}
-use mathlib.Core.Bool.{Bool, true, false, not, _||_, _&&_, and-eq-true-iff}
+use mathlib.Core.Bool.{Bool, true, false, not, _||_, _&&_, and-eq-true-iff, cond}
 use lib.Dec.{T, not-T}
 use lib.Ieee.Bits as bits
 
@@ -39,3 +39,8 @@ iff false false f g = refl
 -- both tests of a conjunction hold
 pub both : (a b : Bool) → (a && b) ≡ true → (a ≡ true) × (b ≡ true)
 both a b h = and-eq-true-iff a b .0 h
+
+-- what holds of both answers of a test holds of the one that it picks
+pub by-test : {A : Type 0} (P : A → Type 0) (b : Bool) (x y : A) → (b ≡ true → P x) → (b ≡ false → P y) → P (cond b x y)
+by-test P true x y f g = f refl
+by-test P false x y f g = g refl

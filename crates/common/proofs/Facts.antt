@@ -11,6 +11,7 @@ use lib.Ieee.{Float, binary64, add, sub, mul, div, lt, le, fits, isNan, ofBits, 
 use lib.Ieee.Bits.{is-true}
 use lib.Ieee.Fits.{and-i}
 use lib.Ieee.Scale.{finite}
+use Rattle.arith.proofs.Tests.{taken as holds, untaken, by-test}
 use Rattle.arith.specs.declared.Outcome.the-variants.{Value}
 use Rattle.arith.specs.Bounds.{abs, Within, Between}
 use Rattle.arith.proofs.Order as order
@@ -121,10 +122,6 @@ settles w n next (Distribution.Float d) (ParamValue.Refused v) t = absurd t
 settles w n next (Distribution.Int d) (ParamValue.Refused v) t = absurd t
 settles w n next (Distribution.Categorical d) (ParamValue.Refused v) t = absurd t
 
-by-test : {w : ℕ} {d : Distribution} (t : Bool) {x y : RandomDraw} → (T t → Drawn w d x) → (T (not t) → Drawn w d y) → Drawn w d (cond t x y)
-by-test true f g = f tt
-by-test false f g = g tt
-
 module _ (w : ℕ) (h : Nonzero w) (d : Distribution) where
   unit-drawn : (f : Float → ParamValue) → T (takenOf d (f (unitDrawOf w .value))) → Ranged d (f (unitDrawOf w .value)) → Drawn w d (fromUnit w f)
   unit-drawn f t r = record { value = f (unitDrawOf w .value); is = is ∙ settles w 1 (nextOf w) d (f (unitDrawOf w .value)) t; taken = t; range = r }
@@ -187,7 +184,7 @@ module _ (w : ℕ) (h : Nonzero w) where
 
     float-drawn : Drawn w D (floatRandom w d)
     unfolding floatRandom
-    float-drawn = by-test (d .«log_scale») log-float (λ l. by-test (d .stepped) (λ s. stepped-float s l) (λ s. linear-float l))
+    float-drawn = by-test (Drawn w (Distribution.Float d)) (d .«log_scale») _ _ (λ e. log-float (holds e)) (λ e. by-test (Drawn w (Distribution.Float d)) (d .stepped) _ _ (λ s. stepped-float (holds s) (untaken e)) (λ s. linear-float (untaken e)))
 
   -- ---- ints
   module _ (d : IntDistribution) (t : T (intShape d)) where
@@ -231,7 +228,7 @@ module _ (w : ℕ) (h : Nonzero w) where
 
     int-drawn : Drawn w Z (intRandom w d)
     unfolding intRandom
-    int-drawn = by-test (d .«log_scale») log-int (λ l. by-test (d .stepped) stepped-int (λ s. linear-int))
+    int-drawn = by-test (Drawn w (Distribution.Int d)) (d .«log_scale») _ _ (λ e. log-int (holds e)) (λ e. by-test (Drawn w (Distribution.Int d)) (d .stepped) _ _ (λ s. stepped-int (holds s)) (λ s. linear-int))
 
   -- ---- choices
   module _ (d : CategoricalDistribution) (t : T (shapeOf (Distribution.Categorical d))) where
@@ -245,7 +242,7 @@ module _ (w : ℕ) (h : Nonzero w) where
 
 pub random-accepted : (w : ℕ) (d : Distribution) → Nonzero w → FloatsFit d → T (shapeOf d) → Drawn w d (sampleRandomOf w d)
 unfolding sampleRandomOf
-random-accepted w d h f t = by-test (shapeOf d) (λ _. go d f t) (λ n. absurd (T-not (shapeOf d) n t))
+random-accepted w d h f t = by-test (Drawn w d) (shapeOf d) _ _ (λ _. go d f t) (λ e. absurd (T-not (shapeOf d) (untaken e) t))
   where
     go : (d : Distribution) → FloatsFit d → T (shapeOf d) → Drawn w d (randomOf w d)
     go (Distribution.Float d) f t = unfold randomOf in float-drawn w h d f (unfold shapeOf in t)

@@ -7,6 +7,7 @@ use lib.Dec.{eqb}
 use lib.IntN.{ℤ, pos, _+ℤ_, _-ℤ_, _*ℤ_, natAbs}
 use lib.Signed.{quotZ}
 use lib.Ieee.{Float, binary64, add, sub, mul, div, ofBits, ofInt, toSigned}
+use Rattle.arith.proofs.Tests.{by-test}
 use Rattle.arith.specs.Rounding.{floorOf}
 use Rattle.rng_util.specs.declared.UnitDraw.{UnitDraw}
 use Rattle.rng_util.specs.declared.WholeDraw.{WholeDraw}
@@ -68,10 +69,6 @@ from-whole w a b f =
     let m = whole w a b in
     finishes w (wholeDrawOf w a b .number) (wholeDrawOf w a b .drawn) (wholeDrawOf w a b .next) (f (wholeDrawOf w a b .value)) (m .0) (m .1)
 
-by-test : {w : ℕ} (t : Bool) {x y : RandomDraw} → Moved w x → Moved w y → Moved w (cond t x y)
-by-test true p q = p
-by-test false p q = q
-
 log-float : (w : ℕ) (d : FloatDistribution) → Moved w (logFloatRandom w d)
 unfolding logFloatRandom
 log-float w d = from-unit w (λ u. logFloat d (logRange (endsOf (Distribution.Float d)) u))
@@ -86,7 +83,7 @@ linear-float w low high = from-unit w (λ u. ParamValue.Float (rangeOf low high 
 
 float : (w : ℕ) (d : FloatDistribution) → Moved w (floatRandom w d)
 unfolding floatRandom
-float w d = by-test (d .«log_scale») (log-float w d) (by-test (d .stepped) (stepped-float w d) (linear-float w (d .low) (d .high)))
+float w d = by-test (Moved w) (d .«log_scale») _ _ (λ _. log-float w d) (λ _. by-test (Moved w) (d .stepped) _ _ (λ _. stepped-float w d) (λ _. linear-float w (d .low) (d .high)))
 
 log-int : (w : ℕ) (d : IntDistribution) → Moved w (logIntRandom w d)
 unfolding logIntRandom
@@ -102,7 +99,7 @@ linear-int w low high = from-whole w low high (λ k. ParamValue.Int k)
 
 int : (w : ℕ) (d : IntDistribution) → Moved w (intRandom w d)
 unfolding intRandom
-int w d = by-test (d .«log_scale») (log-int w d) (by-test (d .stepped) (stepped-int w (d .low) (d .high) (d .step)) (linear-int w (d .low) (d .high)))
+int w d = by-test (Moved w) (d .«log_scale») _ _ (λ _. log-int w d) (λ _. by-test (Moved w) (d .stepped) _ _ (λ _. stepped-int w (d .low) (d .high) (d .step)) (λ _. linear-int w (d .low) (d .high)))
 
 choice : (w n : ℕ) → Moved w (categoricalRandom w n)
 unfolding categoricalRandom
@@ -115,4 +112,4 @@ random w (Distribution.Categorical d) = unfold randomOf in choice w (d .«n_choi
 
 pub random-moves : (w : ℕ) (d : Distribution) → Moved w (sampleRandomOf w d)
 unfolding sampleRandomOf
-random-moves w d = by-test (shapeOf d) (random w d) (refused w 11)
+random-moves w d = by-test (Moved w) (shapeOf d) _ _ (λ _. random w d) (λ _. refused w 11)

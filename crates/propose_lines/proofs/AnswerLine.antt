@@ -7,7 +7,7 @@ use lib.ListN.{length, take, drop, length-append, length-drop, drop-of-length-le
 use lib.Seq.{paste, take-at, take-all, drop-append-add, drop-drop}
 use Rattle.word_text.specs.Digits.{digitsOf}
 use Rattle.word_text.proofs.Digits.{length-last}
-use Rattle.text_laws.specs.Lines.{printed, answerLine}
+use Rattle.propose_lines.specs.Lines.{printed, answerLine}
 
 -- a word and the byte after it are 17 bytes
 pub printed-length : (w end : ℕ) → length (printed w end) ≡ 17

@@ -4,9 +4,8 @@ use mathlib.Core.Path.{_≡_, refl}
 use mathlib.Core.Bool.{Bool, true, false}
 use mathlib.Core.List.{List, [], _∷_, _++_}
 use Rattle.arith.specs.Lists.{every, grown, placeOf}
-use Rattle.word_text.specs.Digits.{allDigits, ofDigits, lastDigits}
-use Rattle.text_laws.specs.Lines.{wordAt, wordsIn}
-use Rattle.text_laws.specs.Texts.{lineOf}
+use Rattle.word_text.specs.Digits.{allDigits, ofDigits, lastDigits, digitsOf}
+use Rattle.propose_lines.specs.Lines.{wordAt, wordsIn, printed}
 use Rattle.propose_lines.specs.Stored.{leading, storedOf, roomFor, laidOut}
 
 -- room for five words in five places, from the second of six on, not from the second of five on; none and 164 words find none
@@ -24,10 +23,10 @@ room = (refl, refl, refl, refl, refl, refl)
 
 -- two words, and the same with capital letters in the second
 abbrev good : List ℕ
-good = lineOf (7 ∷ 10 ∷ [])
+good = printed 7 32 ++ digitsOf 10
 
 abbrev bad : List ℕ
-bad = lineOf (7 ∷ []) ++ (32 ∷ 65 ∷ 65 ∷ 65 ∷ 65 ∷ 65 ∷ 65 ∷ 65 ∷ 65 ∷ 65 ∷ 65 ∷ 65 ∷ 65 ∷ 65 ∷ 65 ∷ 65 ∷ 65 ∷ [])
+bad = printed 7 32 ++ (65 ∷ 65 ∷ 65 ∷ 65 ∷ 65 ∷ 65 ∷ 65 ∷ 65 ∷ 65 ∷ 65 ∷ 65 ∷ 65 ∷ 65 ∷ 65 ∷ 65 ∷ 65 ∷ [])
 
 abbrev Stores : Type 0
 Stores =
@@ -40,5 +39,5 @@ Stores =
     × (storedOf bad 2 1 (1 ∷ 2 ∷ 3 ∷ 4 ∷ []) ≡ 1 ∷ 7 ∷ 3 ∷ 4 ∷ [])
 
 stores : Stores
-unfolding every grown placeOf allDigits ofDigits lastDigits wordAt wordsIn lineOf
+unfolding every grown placeOf allDigits ofDigits lastDigits wordAt wordsIn
 stores = (refl, refl, refl, refl, refl, refl, refl)

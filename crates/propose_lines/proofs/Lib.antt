@@ -1,4 +1,6 @@
 pub mod AnswerLine
+pub mod Bytes
 mod Cases
 mod SlotNames
 pub mod Stored
+pub mod Words

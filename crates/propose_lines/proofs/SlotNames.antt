@@ -9,8 +9,8 @@ use borrow.Author.Tests.{eq-eqb, ne-eqb}
 use lib.Dec.{eqb}
 use lib.ListN.{length, take, drop, length-drop, drop-of-length-le}
 use lib.Seq.{drop-drop}
-use Rattle.text_laws.specs.Names.{slotNames, slotsNames, sameBytes}
-use Rattle.text_laws.proofs.Bytes.{differ, same-start, too-short}
+use Rattle.propose_lines.specs.Names.{slotNames, slotsNames, sameBytes}
+use Rattle.propose_lines.proofs.Bytes.{differ, same-start, too-short}
 
 -- i of n slots have been seen, and what is left compares as the whole
 module _ (line : List ℕ) (n at i : ℕ) (l : i < n) (w : sameBytes (drop at line) (slotsNames (n - i)) ≡ sameBytes line (slotsNames n)) where

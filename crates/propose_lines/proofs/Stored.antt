@@ -11,8 +11,8 @@ use lib.Seq.{paste, take-paste, take-at, length-take-le, take-all}
 use Rattle.arith.specs.Lists.{every}
 use Rattle.arith.proofs.Lists.{every-same, place-none, place-is}
 use Rattle.arith.proofs.Tests.{both}
-use Rattle.text_laws.specs.Lines.{wordAt, isWord, wordsIn}
-use Rattle.text_laws.proofs.Words.{words-length}
+use Rattle.propose_lines.specs.Lines.{wordAt, isWord, wordsIn}
+use Rattle.propose_lines.proofs.Words.{words-length}
 use Rattle.propose_lines.specs.Stored.{leading, roomFor}
 
 module _ (out : List ℕ) (at k : ℕ) (line : List ℕ) (room : at + k ≤ length out) where

@@ -7,7 +7,7 @@ use lib.Dec.{eqb, leb}
 use lib.ListN.{length, take}
 use lib.Seq.{paste}
 use Rattle.arith.specs.Lists.{every, placeOf}
-use Rattle.text_laws.specs.Lines.{isWord, wordAt, spacedOf, isWords, wordsIn}
+use Rattle.propose_lines.specs.Lines.{isWord, wordAt, spacedOf, isWords, wordsIn}
 
 -- how many of k words stand before the first that is none
 abbrev pub leading : ℕ → List ℕ → ℕ

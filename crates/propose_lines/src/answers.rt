@@ -2,7 +2,7 @@
 ghost use mathlib.Core.Path.{_≡_};
 ghost use Prim.Native.Nat.{_+_, _≤_};
 ghost use lib.Seq.{paste};
-ghost use Rattle.text_laws.specs.Lines.{printed, answerLine};
+ghost use Rattle.propose_lines.specs.Lines.{printed, answerLine};
 
 // Puts the digits of w and the byte after them into the line, from `at` on.
 fn put(line: [u8; 68], at: usize, w: u64, end: u8) -> [u8; 68]

@@ -1,7 +1,7 @@
 // The names lines: those of the input, compared byte by byte, and the one of the output.
 ghost use mathlib.Core.Path.{_≡_};
 ghost use mathlib.Core.List.{[], _∷_, _++_};
-ghost use Rattle.text_laws.specs.Names.{settingsNames, slotsNames, historyNames, callNames, answerNames, sameBytes};
+ghost use Rattle.propose_lines.specs.Names.{settingsNames, slotsNames, historyNames, callNames, answerNames, sameBytes};
 
 // Whether two slices hold the same bytes.
 fn same(a: &[u8], b: &[u8]) -> bool

@@ -13,7 +13,7 @@ use lib.Ieee.Bits.{is-true, is-false}
 use borrow.Author.Tests.{ltb-true, eqb-true, eqb-false, eq-eqb}
 use Rattle.arith.specs.Lists.{every}
 use Rattle.arith.proofs.Lists.{place-is, place-some, each-every}
-use Rattle.arith.proofs.Tests.{taken, untaken}
+use Rattle.arith.proofs.Tests.{taken, untaken, by-test}
 use Rattle.distribution.specs.declared.Distribution.{Distribution}
 use Rattle.distribution.specs.declared.Read.{Read}
 use Rattle.distribution_words.specs.Words.{readOf}
@@ -34,7 +34,6 @@ use Rattle.sampler_laws.specs.Calls.{refusedOf, withWord, withPlace, act
 use Rattle.sampler_laws.specs.NewTrials.{pastDiscovery, newTrial, servedHistory, hasModel, fitMade, fitAnswer, continuous, pointDrawn, Stores, StoresBest, BestStored}
 use Rattle.sampler_laws.specs.Runs.{Asked, asks, closes, Call, callOf}
 use Rattle.sampler_state.specs.State.{emptyPlace, placeAt, taken as isTaken, holds, trialPlace, freePlace, storedAt, samplerOk}
-use Rattle.sampler_laws.proofs.PlaceCounts.{by-test}
 
 -- ---- a trial's place, written
 
@@ -77,15 +76,15 @@ new : (s : Sampler) (trial : ℕ) (h : List ℕ) → Fills s trial h (newTrialOf
 unfolding newTrialOf
 new s trial h =
     let c = computeCandidateOf (s .settings) (s .dimensions) (s .«n_dims») (s .word) h in
-    by-test (Fills s trial h) (ltb (freePlace (s .places)) 32)
-    (λ l. by-test (Fills s trial h) (eqb (c .number) 0)
+    by-test (Fills s trial h) (ltb (freePlace (s .places)) 32) _ _
+    (λ l. by-test (Fills s trial h) (eqb (c .number) 0) _ _
     (λ q e. record { at = freePlace (s .places); below = ltb-true (freePlace (s .places)) 32 l; number = eqb-true (c .number) 0 q; places = refl; dimensions = refl; dims = refl })
     (λ q e. absurd (eqb-false (c .number) 0 q e)))
     (λ l e. absurd (omega arith))
 
 active : (s : Sampler) (d : Distribution) (trial : ℕ) (h : List ℕ) → trialPlace (s .places) trial ≡ 32 → Fills s trial h (activeOf s d trial h)
 unfolding activeOf
-active s d trial h none = by-test (Fills s trial h) (ltb (trialPlace (s .places) trial) 32) (λ l e. let m = ltb-true (trialPlace (s .places) trial) 32 l in absurd (omega (arith, none))) (λ l. new s trial h)
+active s d trial h none = by-test (Fills s trial h) (ltb (trialPlace (s .places) trial) 32) _ _ (λ l e. let m = ltb-true (trialPlace (s .places) trial) 32 l in absurd (omega (arith, none))) (λ l. new s trial h)
 
 served : (s : Sampler) (d : Distribution) (trial : ℕ) (h : List ℕ) → T (pastDiscovery s trial) → trialPlace (s .places) trial ≡ 32 → Fills s trial (servedHistory s h) (servedOf s d trial h)
 unfolding servedOf
@@ -96,7 +95,7 @@ served s d trial h past none = go (s .active) (eqb (s .«n_dims») 0 || eqb tria
     go false true t = absurd t
     go false false t =
         let r = activeOf (activated s) d trial [] in
-        by-test (Fills s trial []) (eqb (r .number) 0)
+        by-test (Fills s trial []) (eqb (r .number) 0) _ _
         (λ q e. let f = active (activated s) d trial [] none e in record { at = f .at; below = f .below; number = f .number; places = f .places; dimensions = f .dimensions; dims = f .dims })
         (λ q e. absurd (eqb-false (r .number) 0 q e))
 
@@ -104,12 +103,12 @@ asked : (s : Sampler) (r : Read) (trial : ℕ) (h : List ℕ) → T (pastDiscove
 asked s Read.Malformed trial h past none = λ e. absurd (omega arith)
 asked s (Read.WellFormed d) trial h past none =
     let n = refusalOf (s .settings .slots) h in
-    by-test (Fills s trial (servedHistory s h)) (eqb n 0) (λ q. served s d trial h past none) (λ q e. absurd (eqb-false n 0 q e))
+    by-test (Fills s trial (servedHistory s h)) (eqb n 0) _ _ (λ q. served s d trial h past none) (λ q e. absurd (eqb-false n 0 q e))
 
 sampled : (s : Sampler) (d : Asked) (trial : ℕ) (h : List ℕ) → T (pastDiscovery s trial) → trialPlace (s .places) trial ≡ 32 → Fills s trial (servedHistory s h) (callOf s (asks d trial h))
 unfolding sampleOf
 sampled s d trial h past none =
-    by-test (Fills s trial (servedHistory s h)) (samplerOk s) (λ q. asked s (readOf (d .kind) (d .low) (d .high) (d .log) (d .stepped) (d .step)) trial h past none) (λ q e. absurd (omega arith))
+    by-test (Fills s trial (servedHistory s h)) (samplerOk s) _ _ (λ q. asked s (readOf (d .kind) (d .low) (d .high) (d .log) (d .stepped) (d .step)) trial h past none) (λ q e. absurd (omega arith))
 
 -- ---- what its place holds
 

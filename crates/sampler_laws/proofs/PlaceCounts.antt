@@ -11,7 +11,7 @@ use lib.Ieee.Bits.{is-true, is-false}
 use borrow.Author.Tests.{ltb-true, ltb-false, eqb-true, eqb-false, eq-eqb, ne-eqb, le-ltb, le-leb}
 use Rattle.arith.specs.Lists.{every, placeOf}
 use Rattle.arith.proofs.Lists.{every-each, place-found, place-most, place-some, places-same, places-more, places-all, places-full}
-use Rattle.arith.proofs.Tests.{taken as holds-true, untaken}
+use Rattle.arith.proofs.Tests.{taken as holds-true, untaken, by-test}
 use Rattle.distribution.specs.declared.Distribution.{Distribution}
 use Rattle.distribution.specs.declared.Read.{Read}
 use Rattle.distribution_words.specs.Words.{readOf}
@@ -98,12 +98,6 @@ none-free ps e = by (ltb (freePlace ps) 32) refl
     by true q = let l = ltb-true (freePlace ps) 32 q in absurd (T-not (takenAt ps (freePlace ps)) (untaken (free-free ps l)) (holds-true (all-taken ps e (freePlace ps) l)))
     by false q = ltb-false (freePlace ps) 32 q
 
--- ---- both answers of a test
-
-pub by-test : (P : Sampled → Type 0) (b : Bool) {x y : Sampled} → (b ≡ true → P x) → (b ≡ false → P y) → P (cond b x y)
-by-test P true f g = f refl
-by-test P false f g = g refl
-
 -- ---- after a call
 
 -- an answer to a call on a sampler with these places; new says whether the call, where it is accepted, is a new trial's
@@ -119,13 +113,13 @@ refused s new n e = no-more (s .places) ∙ ap (λ (b : Bool). takenCount (s .pl
 module _ (s : Sampler) (full : length (s .places) ≡ 32) where
   discover : (d : Distribution) (trial : ℕ) → Counted (s .places) false (discoverOf s d trial)
   unfolding discoverOf
-  discover d trial = by-test (Counted (s .places) false) (eqb (s .«n_dims») 20) (λ e. no-more (s .places)) (λ e. no-more (s .places))
+  discover d trial = by-test (Counted (s .places) false) (eqb (s .«n_dims») 20) _ _ (λ e. no-more (s .places)) (λ e. no-more (s .places))
 
   next : (d : Distribution) (i : ℕ) → i < 32 → takenAt (s .places) i ≡ true → Counted (s .places) false (nextOf s d i)
   unfolding nextOf
   next d i l t =
       let p = placeAt (s .places) i in
-      by-test (Counted (s .places) false) (ltb (p .«next_dim») (s .«n_dims»))
+      by-test (Counted (s .places) false) (ltb (p .«next_dim») (s .«n_dims»)) _ _
       (λ e. set-same (s .places) i (record { trial = p .trial; values = p .values; «next_dim» = p .«next_dim» + 1 }) full l (t ∙ sym (le-leb 1 (p .«next_dim» + 1) (omega arith))) ∙ no-more (s .places))
       (λ e. no-more (s .places))
 
@@ -134,16 +128,16 @@ module _ (s : Sampler) (full : length (s .places) ≡ 32) where
   new trial h =
       let i = freePlace (s .places) in
       let c = computeCandidateOf (s .settings) (s .dimensions) (s .«n_dims») (s .word) h in
-      by-test (Counted (s .places) true) (ltb i 32)
+      by-test (Counted (s .places) true) (ltb i 32) _ _
       (λ e. let l = ltb-true i 32 e in
-      by-test (Counted (s .places) true) (eqb (c .number) 0) (λ q. set-more (s .places) i (record { trial = trial; values = c .values; «next_dim» = 1 }) full l (free-free (s .places) l) refl) (refused s true (c .number)))
+      by-test (Counted (s .places) true) (eqb (c .number) 0) _ _ (λ q. set-more (s .places) i (record { trial = trial; values = c .values; «next_dim» = 1 }) full l (free-free (s .places) l) refl) (refused s true (c .number)))
       (λ e. no-more (s .places))
 
   active : (d : Distribution) (trial : ℕ) (h : List ℕ) → Counted (s .places) (eqb (trialPlace (s .places) trial) 32) (activeOf s d trial h)
   unfolding activeOf
   active d trial h =
       let i = trialPlace (s .places) trial in
-      by-test (Counted (s .places) (eqb i 32)) (ltb i 32)
+      by-test (Counted (s .places) (eqb i 32)) (ltb i 32) _ _
       (λ e. let l = ltb-true i 32 e in subst (λ (x : Bool). Counted (s .places) x (nextOf s d i)) (sym (ne-eqb i 32 (λ z. omega arith))) (next d i l (trial-taken (s .places) trial l)))
       (λ e. subst (λ (x : Bool). Counted (s .places) x (newTrialOf s trial h)) (sym (eq-eqb i 32 (trial-none (s .places) trial e))) (new trial h))
 
@@ -157,24 +151,24 @@ served s d trial h e = go (s .active) (eqb (s .«n_dims») 0 || eqb trial (s .«
     go : (a b : Bool) → Counted (s .places) ((a || not b) && q) (cond a (activeOf s d trial h) (cond b (discoverOf s d trial) (unlessRefused s (activeOf (activated s) d trial []))))
     go true b = active s e d trial h
     go false true = discover s e d trial
-    go false false = let r = activeOf (activated s) d trial [] in by-test (Counted (s .places) q) (eqb (r .number) 0) (λ z. active (activated s) e d trial []) (refused s q (r .number))
+    go false false = let r = activeOf (activated s) d trial [] in by-test (Counted (s .places) q) (eqb (r .number) 0) _ _ (λ z. active (activated s) e d trial []) (refused s q (r .number))
 
 sampled : (s : Sampler) (d : Asked) (trial : ℕ) (h : List ℕ) → length (s .places) ≡ 32 → Counted (s .places) (pastDiscovery s trial && eqb (trialPlace (s .places) trial) 32) (callOf s (asks d trial h))
 unfolding sampleOf
-sampled s d trial h e = by-test (Counted (s .places) q) (samplerOk s) (λ z. go (readOf (d .kind) (d .low) (d .high) (d .log) (d .stepped) (d .step))) (λ z. refused s q 11 refl)
+sampled s d trial h e = by-test (Counted (s .places) q) (samplerOk s) _ _ (λ z. go (readOf (d .kind) (d .low) (d .high) (d .log) (d .stepped) (d .step))) (λ z. refused s q 11 refl)
   where
     q : Bool
     q = pastDiscovery s trial && eqb (trialPlace (s .places) trial) 32
 
     go : (r : Read) → Counted (s .places) q (askedOf s r trial h)
     go Read.Malformed = refused s q 2 refl
-    go (Read.WellFormed r) = let n = refusalOf (s .settings .slots) h in by-test (Counted (s .places) q) (eqb n 0) (λ z. served s r trial h e) (refused s q n)
+    go (Read.WellFormed r) = let n = refusalOf (s .settings .slots) h in by-test (Counted (s .places) q) (eqb n 0) _ _ (λ z. served s r trial h e) (refused s q n)
 
 closed : (s : Sampler) (trial : ℕ) → length (s .places) ≡ 32 → takenCount (closeOf s trial .sampler .places) + cond (eqb (closeOf s trial .number) 0) 1 0 ≡ takenCount (s .places)
 unfolding closeOf
 closed s trial e =
     let i = trialPlace (s .places) trial in
-    by-test Fewer (samplerOk s) (λ z. by-test Fewer (ltb i 32) (λ q. let l = ltb-true i 32 q in set-less (s .places) i emptyPlace e l (trial-taken (s .places) trial l) refl) (λ q. sym (no-more (s .places)))) (λ z. sym (no-more (s .places)))
+    by-test Fewer (samplerOk s) _ _ (λ z. by-test Fewer (ltb i 32) _ _ (λ q. let l = ltb-true i 32 q in set-less (s .places) i emptyPlace e l (trial-taken (s .places) trial l) refl) (λ q. sym (no-more (s .places)))) (λ z. sym (no-more (s .places)))
   where
     Fewer : Sampled → Type 0
     Fewer r = takenCount (r .sampler .places) + cond (eqb (r .number) 0) 1 0 ≡ takenCount (s .places)
@@ -227,39 +221,39 @@ module _ (s : Sampler) (trial : ℕ) where
 
   discover-nine : (d : Distribution) → Only (discoverOf s d trial)
   unfolding discoverOf
-  discover-nine d = by-test Only (eqb (s .«n_dims») 20) (λ q e. absurd (omega arith)) (λ q e. absurd (omega arith))
+  discover-nine d = by-test Only (eqb (s .«n_dims») 20) _ _ (λ q e. absurd (omega arith)) (λ q e. absurd (omega arith))
 
   next-nine : (d : Distribution) (i : ℕ) → Only (nextOf s d i)
   unfolding nextOf
-  next-nine d i = by-test Only (ltb (placeAt (s .places) i .«next_dim») (s .«n_dims»)) (λ q e. absurd (omega arith)) (λ q e. absurd (omega arith))
+  next-nine d i = by-test Only (ltb (placeAt (s .places) i .«next_dim») (s .«n_dims»)) _ _ (λ q e. absurd (omega arith)) (λ q e. absurd (omega arith))
 
   new-nine : (h : List ℕ) → trialPlace (s .places) trial ≡ 32 → Only (newTrialOf s trial h)
   unfolding newTrialOf
   new-nine h p =
       let c = computeCandidateOf (s .settings) (s .dimensions) (s .«n_dims») (s .word) h in
-      by-test Only (ltb (freePlace (s .places)) 32)
-      (λ l. by-test Only (eqb (c .number) 0) (λ q e. absurd (omega arith)) (λ q e. absurd (candidate-other (s .settings) (s .dimensions) (s .«n_dims») (s .word) h e)))
+      by-test Only (ltb (freePlace (s .places)) 32) _ _
+      (λ l. by-test Only (eqb (c .number) 0) _ _ (λ q e. absurd (omega arith)) (λ q e. absurd (candidate-other (s .settings) (s .dimensions) (s .«n_dims») (s .word) h e)))
       (λ l e. (free-none (s .places) (ltb-false (freePlace (s .places)) 32 l), p))
 
   active-nine : (d : Distribution) (h : List ℕ) → Only (activeOf s d trial h)
   unfolding activeOf
-  active-nine d h = let i = trialPlace (s .places) trial in by-test Only (ltb i 32) (λ q. next-nine d i) (λ q. new-nine h (trial-none (s .places) trial q))
+  active-nine d h = let i = trialPlace (s .places) trial in by-test Only (ltb i 32) _ _ (λ q. next-nine d i) (λ q. new-nine h (trial-none (s .places) trial q))
 
 served-nine : (s : Sampler) (d : Distribution) (trial : ℕ) (h : List ℕ) → Nine (s .places) trial (servedOf s d trial h)
 unfolding servedOf
 served-nine s d trial h =
     let r = activeOf (activated s) d trial [] in
     let end = active-nine (activated s) trial d [] in
-    by-test (Only s trial) (s .active) (λ a. active-nine s trial d h)
-    (λ a. by-test (Only s trial) (eqb (s .«n_dims») 0 || eqb trial (s .«discovery_trial_id»)) (λ b. discover-nine s trial d) (λ b. by-test (Only s trial) (eqb (r .number) 0) (λ c. end) (λ c. end)))
+    by-test (Only s trial) (s .active) _ _ (λ a. active-nine s trial d h)
+    (λ a. by-test (Only s trial) (eqb (s .«n_dims») 0 || eqb trial (s .«discovery_trial_id»)) _ _ (λ b. discover-nine s trial d) (λ b. by-test (Only s trial) (eqb (r .number) 0) _ _ (λ c. end) (λ c. end)))
 
 only-full : (s : Sampler) (d : Asked) (trial : ℕ) (h : List ℕ) → Nine (s .places) trial (callOf s (asks d trial h))
 unfolding sampleOf
-only-full s d trial h = by-test (Only s trial) (samplerOk s) (λ z. go (readOf (d .kind) (d .low) (d .high) (d .log) (d .stepped) (d .step))) (λ z e. absurd (omega arith))
+only-full s d trial h = by-test (Only s trial) (samplerOk s) _ _ (λ z. go (readOf (d .kind) (d .low) (d .high) (d .log) (d .stepped) (d .step))) (λ z e. absurd (omega arith))
   where
     go : (r : Read) → Nine (s .places) trial (askedOf s r trial h)
     go Read.Malformed = λ e. absurd (omega arith)
-    go (Read.WellFormed r) = by-test (Only s trial) (eqb (refusalOf (s .settings .slots) h) 0) (λ z. served-nine s r trial h) (λ z e. absurd (history-other (s .settings .slots) h e))
+    go (Read.WellFormed r) = by-test (Only s trial) (eqb (refusalOf (s .settings .slots) h) 0) _ _ (λ z. served-nine s r trial h) (λ z e. absurd (history-other (s .settings .slots) h e))
 
 -- a sampler with a taken place is active
 pub taken-active : (s : Sampler) (i : ℕ) → T (samplerOk s) → i < 32 → takenAt (s .places) i ≡ true → s .active ≡ true

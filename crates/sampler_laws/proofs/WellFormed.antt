@@ -11,7 +11,7 @@ use lib.Ieee.Fits.{and-i, and-l, eq→eqb}
 use borrow.Author.Tests.{eqb-true, eqb-false, ltb-true, ltb-false}
 use Rattle.arith.specs.Lists.{every}
 use Rattle.arith.proofs.Lists.{place-found, place-some}
-use Rattle.arith.proofs.Tests.{taken as passed, untaken, or-left}
+use Rattle.arith.proofs.Tests.{taken as passed, untaken, or-left, by-test}
 use Rattle.distribution.proofs.Facts.{parts, asked as implied}
 use Rattle.rng_util.proofs.Nonzero.{Nonzero, moved-nonzero}
 use Rattle.distribution.specs.declared.Distribution.{Distribution}
@@ -51,10 +51,6 @@ pub record Good (r : Sampled) : Type 0 where
 accepted : (r : Sampled) → r .number ≡ 0 → Well (r .sampler) → Good r
 accepted r e w = record { well = w; answered = λ n. omega arith }
 
-by-test : (b : Bool) (x y : Sampled) → (b ≡ true → Good x) → (b ≡ false → Good y) → Good (cond b x y)
-by-test true x y p q = p refl
-by-test false x y p q = q refl
-
 -- ---- the phases
 
 module _ (s : Sampler) (g : Well s) where
@@ -68,7 +64,7 @@ module _ (s : Sampler) (g : Well s) where
 
   next : (d : Distribution) (i : ℕ) → i < 32 → T (taken (placeAt (s .places) i)) → Good (nextOf s d i)
   unfolding nextOf
-  next d i l h = by-test (ltb (p .«next_dim») (s .«n_dims»)) answer (drawnOf s (sampleRandomOf (s .word) d)) (λ e. moved (ltb-true (p .«next_dim») (s .«n_dims») e)) (λ _. drawn d)
+  next d i l h = by-test Good (ltb (p .«next_dim») (s .«n_dims»)) answer (drawnOf s (sampleRandomOf (s .word) d)) (λ e. moved (ltb-true (p .«next_dim») (s .«n_dims») e)) (λ _. drawn d)
     where
       p : Place
       p = placeAt (s .places) i
@@ -86,7 +82,7 @@ module _ (s : Sampler) (g : Well s) where
 
   new : (trial : ℕ) (h : List ℕ) → s .active ≡ true → (trialPlace (s .places) trial < 32 → ⊥) → refusalOf (s .settings .slots) h ≡ 0 → Good (newTrialOf s trial h)
   unfolding newTrialOf
-  new trial h a none r = by-test (ltb i 32) (storedOf s i trial c) (refusedOf s 9) (λ e. stored (ltb-true i 32 e)) (λ _. no 9 (λ e. omega arith))
+  new trial h a none r = by-test Good (ltb i 32) (storedOf s i trial c) (refusedOf s 9) (λ e. stored (ltb-true i 32 e)) (λ _. no 9 (λ e. omega arith))
     where
       i : ℕ
       i = freePlace (s .places)
@@ -119,12 +115,12 @@ module _ (s : Sampler) (g : Well s) where
           accepted answer refl (with-word (withPlace s i p) w (c .next) z)
 
       stored : i < 32 → Good (storedOf s i trial c)
-      stored l = by-test (eqb (c .number) 0) answer (refusedOf s (c .number)) (λ _. placed l) (λ e. absurd (eqb-false (c .number) 0 e (made .0)))
+      stored l = by-test Good (eqb (c .number) 0) answer (refusedOf s (c .number)) (λ _. placed l) (λ e. absurd (eqb-false (c .number) 0 e (made .0)))
 
   active : (d : Distribution) (trial : ℕ) (h : List ℕ) → s .active ≡ true → refusalOf (s .settings .slots) h ≡ 0 → Good (activeOf s d trial h)
   unfolding activeOf
   active d trial h a r =
-      by-test (ltb i 32) (nextOf s d i) (newTrialOf s trial h) (λ e. let l = ltb-true i 32 e in next d i l (found l)) (λ e. new trial h a (λ l. let m = ltb-false i 32 e in omega arith) r)
+      by-test Good (ltb i 32) (nextOf s d i) (newTrialOf s trial h) (λ e. let l = ltb-true i 32 e in next d i l (found l)) (λ e. new trial h a (λ l. let m = ltb-false i 32 e in omega arith) r)
     where
       i : ℕ
       i = trialPlace (s .places) trial
@@ -136,7 +132,7 @@ module _ (s : Sampler) (g : Well s) where
   discover : (d : Distribution) (trial : ℕ) → s .active ≡ false → Held d → T (shapeOf d) → Good (discoverOf s d trial)
   unfolding discoverOf
   discover d trial a h x =
-      by-test (eqb (s .«n_dims») 20) (refusedOf s 8) (drawnOf (withDimension s trial d) (sampleRandomOf (s .word) d)) (λ _. no s g 8 (λ e. omega arith))
+      by-test Good (eqb (s .«n_dims») 20) (refusedOf s 8) (drawnOf (withDimension s trial d) (sampleRandomOf (s .word) d)) (λ _. no s g 8 (λ e. omega arith))
       (λ e.
       let l = few s g in
       let n = eqb-false (s .«n_dims») 20 e in
@@ -148,13 +144,13 @@ module _ (s : Sampler) (g : Well s) where
       let r = activeOf (activated s) d trial [] in
       let e = empty-accepted (s .settings .slots) (slots-least (s .settings) (g .ok .settings)) (slots-most (s .settings) (g .ok .settings)) in
       let h = active (activated s) (ended s g a n) d trial [] refl e in
-      by-test (eqb (r .number) 0) r (refusedOf s (r .number)) (λ _. h) (λ _. no s g (r .number) (h .answered))
+      by-test Good (eqb (r .number) 0) r (refusedOf s (r .number)) (λ _. h) (λ _. no s g (r .number) (h .answered))
 
   served : (d : Distribution) (trial : ℕ) (h : List ℕ) → Held d → T (shapeOf d) → refusalOf (s .settings .slots) h ≡ 0 → Good (servedOf s d trial h)
   unfolding servedOf
   served d trial h x y r =
-      by-test (s .active) (activeOf s d trial h) (cond discovers (discoverOf s d trial) (unlessRefused s (activeOf (activated s) d trial []))) (λ a. active s g d trial h a r)
-      (λ a. by-test discovers (discoverOf s d trial) (unlessRefused s (activeOf (activated s) d trial [])) (λ _. discover d trial a x y) (λ e. last d trial a (some e)))
+      by-test Good (s .active) (activeOf s d trial h) (cond discovers (discoverOf s d trial) (unlessRefused s (activeOf (activated s) d trial []))) (λ a. active s g d trial h a r)
+      (λ a. by-test Good discovers (discoverOf s d trial) (unlessRefused s (activeOf (activated s) d trial [])) (λ _. discover d trial a x y) (λ e. last d trial a (some e)))
     where
       discovers : Bool
       discovers = eqb (s .«n_dims») 0 || eqb trial (s .«discovery_trial_id»)
@@ -167,11 +163,11 @@ module _ (s : Sampler) (g : Well s) where
   asked (Read.WellFormed d) trial h f =
       let n = refusalOf (s .settings .slots) h in
       let l = refusal-small (s .settings) h (g .ok .settings) in
-      by-test (eqb n 0) (servedOf s d trial h) (refusedOf s n) (λ e. served d trial h (f d refl .0) (f d refl .1) (eqb-true n 0 e)) (λ _. no s g n (λ e. omega arith))
+      by-test Good (eqb n 0) (servedOf s d trial h) (refusedOf s n) (λ e. served d trial h (f d refl .0) (f d refl .1) (eqb-true n 0 e)) (λ _. no s g n (λ e. omega arith))
 
   -- the test that each call makes first
   first : (x : Sampled) → Good x → Good (cond (samplerOk s) x (refusedOf s 11))
-  first x h = by-test (samplerOk s) x (refusedOf s 11) (λ _. h) (λ e. absurd (T-not (samplerOk s) (untaken e) (parts-ok s (g .ok))))
+  first x h = by-test Good (samplerOk s) x (refusedOf s 11) (λ _. h) (λ e. absurd (T-not (samplerOk s) (untaken e) (parts-ok s (g .ok))))
 
   close : (trial : ℕ) → Good (closeOf s trial)
   unfolding closeOf
@@ -179,7 +175,7 @@ module _ (s : Sampler) (g : Well s) where
       let i = trialPlace (s .places) trial in
       let answer : Sampled = record { number = 0; value = ParamValue.Refused 0; drawn = 0; sampler = withPlace s i emptyPlace } in
       first (cond (ltb i 32) answer (refusedOf s 10))
-      (by-test (ltb i 32) answer (refusedOf s 10)
+      (by-test Good (ltb i 32) answer (refusedOf s 10)
       (λ e. accepted answer refl (with-place s g i emptyPlace (ltb-true i 32 e) (free-ok (s .active) (s .dimensions) (s .«n_dims») emptyPlace tt) (λ b. absurd b)))
       (λ _. no s g 10 (λ e. omega arith)))
 

@@ -8,7 +8,7 @@ use native.Mathlib.Omega.{arith}
 use lib.Dec.{T, T-not, eqb, leb, ltb}
 use lib.Ieee.Bits.{is-false}
 use borrow.Author.Tests.{ltb-true, eqb-true, eqb-false, eq-eqb, ne-eqb}
-use Rattle.arith.proofs.Tests.{taken, untaken}
+use Rattle.arith.proofs.Tests.{taken, untaken, by-test}
 use Rattle.rng_util.proofs.Nonzero.{Nonzero}
 use Rattle.distribution.specs.declared.Distribution.{Distribution}
 use Rattle.distribution.specs.declared.Read.{Read}
@@ -30,7 +30,7 @@ use Rattle.sampler_laws.specs.NewTrials.{pastDiscovery, newTrial, served
 use Rattle.sampler_laws.specs.Runs.{Asked, asks, closes, Call, callOf}
 use Rattle.sampler_state.specs.State.{placeAt, trialPlace, freePlace, samplerOk}
 use Rattle.sampler_laws.proofs.Asked.{read-held}
-use Rattle.sampler_laws.proofs.PlaceCounts.{trial-taken, trial-none, taken-active, by-test}
+use Rattle.sampler_laws.proofs.PlaceCounts.{trial-taken, trial-none, taken-active}
 use Rattle.sampler_laws.proofs.Words.{call}
 
 -- an accepted answer draws so many words
@@ -54,20 +54,20 @@ trialWords s trial h = cond (pastDiscovery s trial && eqb (trialPlace (s .places
 module _ (s : Sampler) (n : Nonzero (s .word)) (held : (j : ℕ) → j < s .«n_dims» → Held (dimensionAt (s .dimensions) j .distribution)) where
   discover : (d : Distribution) (trial : ℕ) → Drawable d → Draws 1 (discoverOf s d trial)
   unfolding discoverOf
-  discover d trial r = by-test (Draws 1) (eqb (s .«n_dims») 20) (λ q e. absurd (omega arith)) (λ q e. random-word (s .word) d n r)
+  discover d trial r = by-test (Draws 1) (eqb (s .«n_dims») 20) _ _ (λ q e. absurd (omega arith)) (λ q e. random-word (s .word) d n r)
 
   next : (d : Distribution) (i : ℕ) → Drawable d → Draws (cond (moreAt s i) 0 1) (nextOf s d i)
   unfolding nextOf
   next d i r =
       let m = moreAt s i in
-      by-test (Draws (cond m 0 1)) m (λ q e. ap (λ (b : Bool). cond b 0 1) (sym q)) (λ q e. random-word (s .word) d n r ∙ ap (λ (b : Bool). cond b 0 1) (sym q))
+      by-test (Draws (cond m 0 1)) m _ _ (λ q e. ap (λ (b : Bool). cond b 0 1) (sym q)) (λ q e. random-word (s .word) d n r ∙ ap (λ (b : Bool). cond b 0 1) (sym q))
 
   new : (trial : ℕ) (h : List ℕ) → Draws (newWords s h) (newTrialOf s trial h)
   unfolding newTrialOf
   new trial h =
       let c = computeCandidateOf (s .settings) (s .dimensions) (s .«n_dims») (s .word) h in
-      by-test (Draws (newWords s h)) (ltb (freePlace (s .places)) 32)
-      (λ l. by-test (Draws (newWords s h)) (eqb (c .number) 0)
+      by-test (Draws (newWords s h)) (ltb (freePlace (s .places)) 32) _ _
+      (λ l. by-test (Draws (newWords s h)) (eqb (c .number) 0) _ _
       (λ q e. compute-words (s .settings) (s .dimensions) (s .«n_dims») (s .word) h (n .1) held (eqb-true (c .number) 0 q)) (λ q e. absurd (eqb-false (c .number) 0 q e)))
       (λ l e. absurd (omega arith))
 
@@ -113,24 +113,24 @@ module _ (s : Sampler) (t : Typed s) (ok : T (samplerOk s)) where
       go false false q =
           let x = activeOf (activated s) d trial [] in
           let z = none-placed s trial ok q in
-          by-test (Draws (cond (eqb i 32) (newWords s []) 1)) (eqb (x .number) 0)
+          by-test (Draws (cond (eqb i 32) (newWords s []) 1)) (eqb (x .number) 0) _ _
           (λ p e. active (activated s) nonzero (t .held) d trial [] r e ∙ ap (λ (y : Bool). cond y (newWords s []) (cond (ltb i 32 && moreAt s i) 0 1)) z ∙ ap (λ (y : Bool). cond y (newWords s []) 1) (sym z))
           (λ p e. absurd (eqb-false (x .number) 0 p e))
 
 sampled : (s : Sampler) (d : Asked) (trial : ℕ) (h : List ℕ) → Typed s → Draws (trialWords s trial h) (callOf s (asks d trial h))
 unfolding sampleOf
-sampled s d trial h t = by-test (Draws (trialWords s trial h)) (samplerOk s) (λ p. go (taken p) (readOf (d .kind) (d .low) (d .high) (d .log) (d .stepped) (d .step)) refl) (λ p e. absurd (omega arith))
+sampled s d trial h t = by-test (Draws (trialWords s trial h)) (samplerOk s) _ _ (λ p. go (taken p) (readOf (d .kind) (d .low) (d .high) (d .log) (d .stepped) (d .step)) refl) (λ p e. absurd (omega arith))
   where
     go : T (samplerOk s) → (r : Read) → readOf (d .kind) (d .low) (d .high) (d .log) (d .stepped) (d .step) ≡ r → Draws (trialWords s trial h) (askedOf s r trial h)
     go ok Read.Malformed q = λ e. absurd (omega arith)
     go ok (Read.WellFormed r) q =
         let g = read-held (d .kind) (d .low) (d .high) (d .log) (d .stepped) (d .step) r q in
         let n = refusalOf (s .settings .slots) h in
-        by-test (Draws (trialWords s trial h)) (eqb n 0) (λ z. served s t ok r trial h (floats-fit r (g .0), g .1)) (λ z e. absurd (eqb-false n 0 z e))
+        by-test (Draws (trialWords s trial h)) (eqb n 0) _ _ (λ z. served s t ok r trial h (floats-fit r (g .0), g .1)) (λ z e. absurd (eqb-false n 0 z e))
 
 closed : (s : Sampler) (trial : ℕ) → closeOf s trial .drawn ≡ 0
 unfolding closeOf
-closed s trial = by-test Without (samplerOk s) (λ p. by-test Without (ltb (trialPlace (s .places) trial) 32) (λ q. refl) (λ q. refl)) (λ p. refl)
+closed s trial = by-test Without (samplerOk s) _ _ (λ p. by-test Without (ltb (trialPlace (s .places) trial) 32) _ _ (λ q. refl) (λ q. refl)) (λ p. refl)
   where
     Without : Sampled → Type 0
     Without r = r .drawn ≡ 0

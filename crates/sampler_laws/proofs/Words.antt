@@ -5,6 +5,7 @@ use mathlib.Core.Bool.{Bool, true, false, _||_, cond}
 use mathlib.Core.List.{List, []}
 use lib.Dec.{eqb, ltb}
 use borrow.Author.Tests.{eqb-true}
+use Rattle.arith.proofs.Tests.{by-test}
 use Rattle.rng_util.specs.Generator.{movedOf}
 use Rattle.distribution.specs.declared.Distribution.{Distribution}
 use Rattle.distribution.specs.declared.Read.{Read}
@@ -26,10 +27,6 @@ pub record Right (s : Sampler) (r : Sampled) : Type 0 where
   pub moves : r .sampler .word ≡ movedOf (r .drawn) (s .word)
   pub refused : (r .number ≡ 0 → ⊥) → (r .drawn ≡ 0) × (r .sampler ≡ s)
 
-by-test : (s : Sampler) (b : Bool) (x y : Sampled) → Right s x → Right s y → Right s (cond b x y)
-by-test s true x y p q = p
-by-test s false x y p q = q
-
 no : (s : Sampler) (n : ℕ) → Right s (refusedOf s n)
 no s n = record { moves = unfold movedOf in refl; refused = λ e. (refl, refl) }
 
@@ -40,33 +37,33 @@ random s t d e = record { moves = random-moves (s .word) d .next; refused = λ q
 module _ (s : Sampler) where
   discover : (d : Distribution) (trial : ℕ) → Right s (discoverOf s d trial)
   unfolding discoverOf
-  discover d trial = by-test s (eqb (s .«n_dims») 20) (refusedOf s 8) (drawnOf (withDimension s trial d) (sampleRandomOf (s .word) d)) (no s 8) (random s (withDimension s trial d) d refl)
+  discover d trial = by-test (Right s) (eqb (s .«n_dims») 20) (refusedOf s 8) (drawnOf (withDimension s trial d) (sampleRandomOf (s .word) d)) (λ _. no s 8) (λ _. random s (withDimension s trial d) d refl)
 
   next : (d : Distribution) (i : ℕ) → Right s (nextOf s d i)
   unfolding nextOf
   next d i =
       let p = placeAt (s .places) i in
-      by-test s (ltb (p .«next_dim») (s .«n_dims»)) _ (drawnOf s (sampleRandomOf (s .word) d))
-      (record { moves = unfold movedOf in refl; refused = λ q. absurd (q refl) }) (random s s d refl)
+      by-test (Right s) (ltb (p .«next_dim») (s .«n_dims»)) _ (drawnOf s (sampleRandomOf (s .word) d))
+      (λ _. record { moves = unfold movedOf in refl; refused = λ q. absurd (q refl) }) (λ _. random s s d refl)
 
   new : (trial : ℕ) (h : List ℕ) → Right s (newTrialOf s trial h)
   unfolding newTrialOf
   new trial h =
-      by-test s (ltb (freePlace (s .places)) 32) (storedOf s (freePlace (s .places)) trial (computeCandidateOf (s .settings) (s .dimensions) (s .«n_dims») (s .word) h)) (refusedOf s 9)
-      (stored (computeCandidateOf (s .settings) (s .dimensions) (s .«n_dims») (s .word) h) (compute-moves (s .settings) (s .dimensions) (s .«n_dims») (s .word) h)) (no s 9)
+      by-test (Right s) (ltb (freePlace (s .places)) 32) (storedOf s (freePlace (s .places)) trial (computeCandidateOf (s .settings) (s .dimensions) (s .«n_dims») (s .word) h)) (refusedOf s 9)
+      (λ _. stored (computeCandidateOf (s .settings) (s .dimensions) (s .«n_dims») (s .word) h) (compute-moves (s .settings) (s .dimensions) (s .«n_dims») (s .word) h)) (λ _. no s 9)
     where
       stored : (c : Proposal) → c .next ≡ movedOf (c .drawn) (s .word) → Right s (storedOf s (freePlace (s .places)) trial c)
-      stored c e = by-test s (eqb (c .number) 0) _ (refusedOf s (c .number)) (record { moves = e; refused = λ q. absurd (q refl) }) (no s (c .number))
+      stored c e = by-test (Right s) (eqb (c .number) 0) _ (refusedOf s (c .number)) (λ _. record { moves = e; refused = λ q. absurd (q refl) }) (λ _. no s (c .number))
 
   active : (d : Distribution) (trial : ℕ) (h : List ℕ) → Right s (activeOf s d trial h)
   unfolding activeOf
-  active d trial h = by-test s (ltb (trialPlace (s .places) trial) 32) (nextOf s d (trialPlace (s .places) trial)) (newTrialOf s trial h) (next d (trialPlace (s .places) trial)) (new trial h)
+  active d trial h = by-test (Right s) (ltb (trialPlace (s .places) trial) 32) (nextOf s d (trialPlace (s .places) trial)) (newTrialOf s trial h) (λ _. next d (trialPlace (s .places) trial)) (λ _. new trial h)
 
 served : (s : Sampler) (d : Distribution) (trial : ℕ) (h : List ℕ) → Right s (servedOf s d trial h)
 unfolding servedOf
 served s d trial h =
-    by-test s (s .active) (activeOf s d trial h) _ (active s d trial h)
-    (by-test s (eqb (s .«n_dims») 0 || eqb trial (s .«discovery_trial_id»)) (discoverOf s d trial) (unlessRefused s (activeOf (activated s) d trial [])) (discover s d trial) (ends (activeOf (activated s) d trial []) (active (activated s) d trial [])))
+    by-test (Right s) (s .active) (activeOf s d trial h) _ (λ _. active s d trial h)
+    (λ _. by-test (Right s) (eqb (s .«n_dims») 0 || eqb trial (s .«discovery_trial_id»)) (discoverOf s d trial) (unlessRefused s (activeOf (activated s) d trial [])) (λ _. discover s d trial) (λ _. ends (activeOf (activated s) d trial []) (active (activated s) d trial [])))
   where
     ends : (r : Sampled) → Right (activated s) r → Right s (unlessRefused s r)
     ends r p = go (eqb (r .number) 0) refl
@@ -77,13 +74,13 @@ served s d trial h =
 
 asked : (s : Sampler) (r : Read) (trial : ℕ) (h : List ℕ) → Right s (askedOf s r trial h)
 asked s Read.Malformed trial h = no s 2
-asked s (Read.WellFormed d) trial h = by-test s (eqb (refusalOf (s .settings .slots) h) 0) (servedOf s d trial h) (refusedOf s (refusalOf (s .settings .slots) h)) (served s d trial h) (no s (refusalOf (s .settings .slots) h))
+asked s (Read.WellFormed d) trial h = by-test (Right s) (eqb (refusalOf (s .settings .slots) h) 0) (servedOf s d trial h) (refusedOf s (refusalOf (s .settings .slots) h)) (λ _. served s d trial h) (λ _. no s (refusalOf (s .settings .slots) h))
 
 close : (s : Sampler) (trial : ℕ) → Right s (closeOf s trial)
 unfolding closeOf movedOf
-close s trial = by-test s (samplerOk s) _ (refusedOf s 11) (by-test s (ltb (trialPlace (s .places) trial) 32) _ (refusedOf s 10) (record { moves = refl; refused = λ q. absurd (q refl) }) (no s 10)) (no s 11)
+close s trial = by-test (Right s) (samplerOk s) _ (refusedOf s 11) (λ _. by-test (Right s) (ltb (trialPlace (s .places) trial) 32) _ (refusedOf s 10) (λ _. record { moves = refl; refused = λ q. absurd (q refl) }) (λ _. no s 10)) (λ _. no s 11)
 
 pub call : (s : Sampler) (c : Call) → Right s (callOf s c)
 call s (asks d trial h) =
-    unfold sampleOf in by-test s (samplerOk s) (askedOf s (readOf (d .kind) (d .low) (d .high) (d .log) (d .stepped) (d .step)) trial h) (refusedOf s 11) (asked s (readOf (d .kind) (d .low) (d .high) (d .log) (d .stepped) (d .step)) trial h) (no s 11)
+    unfold sampleOf in by-test (Right s) (samplerOk s) (askedOf s (readOf (d .kind) (d .low) (d .high) (d .log) (d .stepped) (d .step)) trial h) (refusedOf s 11) (λ _. asked s (readOf (d .kind) (d .low) (d .high) (d .log) (d .stepped) (d .step)) trial h) (λ _. no s 11)
 call s (closes trial) = close s trial

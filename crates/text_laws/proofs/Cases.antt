@@ -13,14 +13,14 @@ use Rattle.word_text.specs.declared.Parsed.{Parsed}
 use Rattle.word_text.specs.Digits.{allDigits, ofDigits, lastDigits}
 use Rattle.distribution.specs.declared.ParamValue.{ParamValue}
 use Rattle.settings.specs.Settings.{settingsOk}
-use Rattle.sampler.specs.Calls.{sampleOf}
-use Rattle.sampler.specs.Runs.{asks}
+use Rattle.sampler_laws.specs.Calls.{sampleOf}
+use Rattle.sampler_laws.specs.Runs.{asks}
 use Rattle.sampler_state.specs.declared.Sampler.{Sampler}
 use Rattle.sampler_state.specs.State.{makeOf, freshOf, noSampler}
 use Rattle.text_laws.specs.declared.Event.{Event}
 use Rattle.text_laws.specs.declared.Stage.{Stage}
-use Rattle.text_laws.specs.Lines.{wordAt, isWords, wordsIn, answerLine}
-use Rattle.text_laws.specs.Names.{slotsNames, historyNames, answerNames, sameBytes}
+use Rattle.propose_lines.specs.Lines.{wordAt, isWords, wordsIn, answerLine}
+use Rattle.propose_lines.specs.Names.{slotsNames, historyNames, answerNames, sameBytes}
 use Rattle.text_laws.specs.Steps.{readingOf, steppedOf, awaits, ends, settingsOf, settingsLine, rowWords, rowLine, historyLine, sampledOf, answeredOf, callLine, startOf, stepOf, finishOf}
 use Rattle.text_laws.specs.Texts.{readOf, ended, writtenOf, lineOf, linesOf, Sized, Words, Table, joined, Document, WellFormed, headOf, textOf, callsOf, answerLines, answersTo}
 use Rattle.text_laws.proofs.Tables.{at}

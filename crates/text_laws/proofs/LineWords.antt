@@ -16,10 +16,10 @@ use Rattle.word_text.specs.declared.Parsed.{Parsed}
 use Rattle.word_text.specs.Digits.{valueOf, allDigits, ofDigits, digitsOf, parseOf}
 use Rattle.word_text.proofs.Digits.{length-last, all-last}
 use Rattle.word_text.proofs.RoundTrip.{reads, prints}
-use Rattle.text_laws.specs.Lines.{wordAt, isWord, wordOf, spacedOf, isWords, wordsIn}
-use Rattle.text_laws.specs.Names.{callNames}
+use Rattle.propose_lines.specs.Lines.{wordAt, isWord, wordOf, spacedOf, isWords, wordsIn}
+use Rattle.propose_lines.specs.Names.{callNames}
 use Rattle.text_laws.specs.Texts.{lineOf, Sized, Words}
-use Rattle.text_laws.proofs.Words.{words-length}
+use Rattle.propose_lines.proofs.Words.{words-length}
 use Rattle.text_laws.proofs.Cut.{plain, plain-append}
 use Rattle.arith.proofs.Tests.{both}
 

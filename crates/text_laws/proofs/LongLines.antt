@@ -10,10 +10,10 @@ use lib.Dec.{leb}
 use lib.ListN.{length, length-append}
 use Rattle.text_laws.specs.declared.Stage.{Stage}
 use Rattle.text_laws.specs.Laws.{LongLines}
-use Rattle.text_laws.specs.Lines.{isWords}
-use Rattle.text_laws.specs.Names.{settingsNames, rowNames, slotNames, slotsNames, historyNames, callNames, sameBytes}
+use Rattle.propose_lines.specs.Lines.{isWords}
+use Rattle.propose_lines.specs.Names.{settingsNames, rowNames, slotNames, slotsNames, historyNames, callNames, sameBytes}
 use Rattle.text_laws.specs.Steps.{Reading, ends, slotsOf, rowWords, lineAt, settingsLine, rowLine, historyLine, callLine, stepOf}
-use Rattle.text_laws.proofs.Bytes.{differ}
+use Rattle.propose_lines.proofs.Bytes.{differ}
 
 not-words : (k : ℕ) (line : List ℕ) → (length line + 1 ≡ 17 * k → ⊥) → isWords k line ≡ false
 unfolding isWords

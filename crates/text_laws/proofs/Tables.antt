@@ -16,11 +16,11 @@ use Rattle.sampler_laws.specs.Runs.{answersOf, endOf}
 use Rattle.sampler_state.specs.State.{makeOf, freshOf}
 use Rattle.text_laws.specs.declared.Event.{Event}
 use Rattle.text_laws.specs.declared.Stage.{Stage}
-use Rattle.text_laws.specs.Lines.{isWords, wordsIn, answerLine}
-use Rattle.text_laws.specs.Names.{settingsNames, rowNames, slotNames, slotsNames, historyNames, callNames, sameBytes}
+use Rattle.propose_lines.specs.Lines.{isWords, wordsIn, answerLine}
+use Rattle.propose_lines.specs.Names.{settingsNames, rowNames, slotNames, slotsNames, historyNames, callNames, sameBytes}
 use Rattle.text_laws.specs.Steps.{Reading, Stepped, ends, settingsOf, madeOf, sampledOf, answeredOf, slotsOf, rowWords, settingsLine, rowLine, historyLine, callLine, startOf, stepOf, finishOf}
 use Rattle.text_laws.specs.Texts.{readOf, ended, lineOf, linesOf, Words, Table, joined, callsOf, answerLines}
-use Rattle.text_laws.proofs.Bytes.{same-self, same-equal}
+use Rattle.propose_lines.proofs.Bytes.{same-self, same-equal}
 use Rattle.text_laws.proofs.Cut.{plain, plain-append, read-ended, silent}
 use Rattle.text_laws.proofs.LineWords.{words-printed, line-plain, names-no-words}
 

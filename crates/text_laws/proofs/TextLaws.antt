@@ -16,11 +16,11 @@ use Rattle.sampler_state.specs.State.{freshOf, noSampler}
 use Rattle.text_laws.specs.declared.Event.{Event}
 use Rattle.text_laws.specs.declared.Stage.{Stage}
 use Rattle.text_laws.specs.Laws.{NoCall, TextAnswers, LongLines}
-use Rattle.text_laws.specs.Lines.{isWords, wordsIn, answerLine}
-use Rattle.text_laws.specs.Names.{settingsNames, historyNames, callNames, answerNames, sameBytes}
+use Rattle.propose_lines.specs.Lines.{isWords, wordsIn, answerLine}
+use Rattle.propose_lines.specs.Names.{settingsNames, historyNames, callNames, answerNames, sameBytes}
 use Rattle.text_laws.specs.Steps.{Reading, Stepped, ends, settingsOf, slotsOf, rowWords, settingsLine, rowLine, historyLine, callLine, startOf, stepOf, finishOf}
 use Rattle.text_laws.specs.Texts.{readOf, ended, writtenOf, lineOf, linesOf, Words, Table, joined, Document, WellFormed, slotsIn, headOf, textOf, callsOf, answerLines, answersTo}
-use Rattle.text_laws.proofs.Bytes.{same-equal}
+use Rattle.propose_lines.proofs.Bytes.{same-equal}
 use Rattle.text_laws.proofs.Cut.{plain, read-ended, read-rest, Cut, no-line, a-line, cut}
 use Rattle.text_laws.proofs.LineWords.{words-read-back, line-plain}
 use Rattle.text_laws.proofs.Tables.{at, last-line, next-line, read-settings-names, read-settings, read-refused, read-history-names, read-rows, row-step, read-call-names, read-calls}

@@ -6,8 +6,8 @@ use mathlib.Core.List.{List, [], _++_}
 use lib.ListN.{length}
 use Rattle.settings.specs.Settings.{settingsOk}
 use Rattle.text_laws.specs.declared.Stage.{Stage}
-use Rattle.text_laws.specs.Lines.{answerLine}
-use Rattle.text_laws.specs.Names.{answerNames}
+use Rattle.propose_lines.specs.Lines.{answerLine}
+use Rattle.propose_lines.specs.Names.{answerNames}
 use Rattle.text_laws.specs.Steps.{Reading, settingsOf, ends, stepOf}
 use Rattle.text_laws.specs.Texts.{Document, WellFormed, Words, ended, lineOf, headOf, textOf, answersTo, writtenOf}
 

@@ -16,8 +16,8 @@ use Rattle.text_laws.specs.declared.Event.{Event}
 use Rattle.text_laws.specs.declared.Reader.{Reader}
 use Rattle.text_laws.specs.declared.Stage.{Stage}
 use Rattle.text_laws.specs.declared.Step.{Step}
-use Rattle.text_laws.specs.Lines.{isWords, wordsIn, answerLine}
-use Rattle.text_laws.specs.Names.{settingsNames, historyNames, callNames, sameBytes}
+use Rattle.propose_lines.specs.Lines.{isWords, wordsIn, answerLine}
+use Rattle.propose_lines.specs.Names.{settingsNames, historyNames, callNames, sameBytes}
 
 -- ---- between two lines
 

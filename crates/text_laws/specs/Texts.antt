@@ -11,8 +11,8 @@ use Rattle.distribution.specs.Value.{kindOf, wordOf}
 use Rattle.settings.specs.Settings.{settingsOk}
 use Rattle.sampler_laws.specs.Runs.{Asked, Call, asks, answersOf}
 use Rattle.sampler_state.specs.State.{freshOf}
-use Rattle.text_laws.specs.Lines.{answerLine}
-use Rattle.text_laws.specs.Names.{settingsNames, historyNames, callNames, answerNames}
+use Rattle.propose_lines.specs.Lines.{answerLine}
+use Rattle.propose_lines.specs.Names.{settingsNames, historyNames, callNames, answerNames}
 use Rattle.text_laws.specs.Steps.{Reading, settingsOf, rowWords, startOf, stepOf, finishOf}
 
 -- ---- how a text is read: byte by byte, a line at each newline, whatever pieces it comes in

@@ -1,7 +1,7 @@
 -- `propose_lines::answers::answer_line` meets its contract. Assumes nothing.
 use mathlib.Core.Path.{refl, _∙_}
 use lib.ListN.{replicate}
-use Rattle.text_laws.specs.Lines.{answerLine}
+use Rattle.propose_lines.specs.Lines.{answerLine}
 use Rattle.propose_lines.proofs.AnswerLine.{four-words}
 use borrow.Author.Needs.{needs}
 use Rattle.propose_lines.proofs.answers.answer_line.Statement.{statement}

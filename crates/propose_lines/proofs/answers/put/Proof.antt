@@ -9,7 +9,7 @@ use lib.ListN.{length, getD, set, length-append, List·getD-append}
 use lib.Seq.{paste, paste-zero, paste-suc, length-paste, getD-at}
 use Rattle.word_text.specs.Digits.{digitsOf}
 use Rattle.word_text.proofs.Digits.{length-last}
-use Rattle.text_laws.specs.Lines.{printed}
+use Rattle.propose_lines.specs.Lines.{printed}
 use Rattle.propose_lines.proofs.AnswerLine.{printed-length}
 use Rattle.propose_lines.proofs.answers.put.Statement.{statement}
 use Rattle.propose_lines.proofs.answers.put.Tie as tie

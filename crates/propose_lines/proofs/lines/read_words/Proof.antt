@@ -5,7 +5,7 @@ use mathlib.Core.Bool.{Bool, true, false, _&&_, false≢true}
 use native.Mathlib.Omega.{arith}
 use borrow.Author.Tests.{eq-eqb, ne-eqb, not-true, not-false}
 use lib.ListN.{length}
-use Rattle.text_laws.specs.Lines.{isWords, spacedOf}
+use Rattle.propose_lines.specs.Lines.{isWords, spacedOf}
 use Rattle.propose_lines.specs.Stored.{roomFor}
 use Rattle.propose_lines.proofs.Stored.{room-facts}
 use borrow.Author.Needs.{needs}

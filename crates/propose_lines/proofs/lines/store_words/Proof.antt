@@ -9,8 +9,8 @@ use lib.ListN.{length, getD, set, length-set}
 use lib.Seq.{paste, paste-zero, paste-suc, length-paste}
 use Rattle.arith.specs.Lists.{every}
 use Rattle.arith.proofs.Lists.{every-not}
-use Rattle.text_laws.specs.Lines.{isWord, wordOf, wordAt, wordsIn}
-use Rattle.text_laws.proofs.Words.{words-length, words-at}
+use Rattle.propose_lines.specs.Lines.{isWord, wordOf, wordAt, wordsIn}
+use Rattle.propose_lines.proofs.Words.{words-length, words-at}
 use Rattle.propose_lines.proofs.Stored.{words-kept, words-read, leading-all, leading-first}
 use Rattle.propose_lines.proofs.lines.store_words.Statement.{statement}
 use Rattle.propose_lines.proofs.lines.store_words.Tie as tie

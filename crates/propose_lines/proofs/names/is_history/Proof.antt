@@ -7,8 +7,8 @@ use Prim.Native.Nat.{ℕ, _-_}
 use mathlib.Core.List.{List}
 use lib.ListN.{length, drop, length-drop}
 use lib.Seq.{take-all}
-use Rattle.text_laws.specs.Names.{rowNames, slotsNames, sameBytes}
-use Rattle.text_laws.proofs.Bytes.{same-start, too-short}
+use Rattle.propose_lines.specs.Names.{rowNames, slotsNames, sameBytes}
+use Rattle.propose_lines.proofs.Bytes.{same-start, too-short}
 use borrow.Author.Needs.{needs}
 use Rattle.propose_lines.proofs.names.is_history.Statement.{statement}
 use Rattle.propose_lines.proofs.names.is_history.Tie as tie

@@ -5,7 +5,7 @@ use native.Mathlib.Omega.{arith}
 use borrow.Author.Needs.{needs}
 use borrow.Author.Tests.{not-true, not-false}
 use lib.ListN.{length, take, drop, length-drop}
-use Rattle.text_laws.specs.Names.{slotNames, slotsNames, sameBytes}
+use Rattle.propose_lines.specs.Names.{slotNames, slotsNames, sameBytes}
 use Rattle.propose_lines.proofs.SlotNames.{next-short, next-differs, next-same, none-left}
 use Rattle.propose_lines.proofs.names.is_slots.Statement.{statement}
 use Rattle.propose_lines.proofs.names.is_slots.Tie as tie

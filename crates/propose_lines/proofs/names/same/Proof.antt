@@ -5,8 +5,8 @@ use mathlib.Core.List.{[]}
 use native.Mathlib.Omega.{arith}
 use native.Mathlib.Numerals.{add-one}
 use lib.ListN.{length, drop, drop-of-length-le}
-use Rattle.text_laws.specs.Names.{sameBytes}
-use Rattle.text_laws.proofs.Bytes.{differ, one-same, one-differs}
+use Rattle.propose_lines.specs.Names.{sameBytes}
+use Rattle.propose_lines.proofs.Bytes.{differ, one-same, one-differs}
 use Rattle.propose_lines.proofs.names.same.Statement.{statement}
 use Rattle.propose_lines.proofs.names.same.Tie as tie
 

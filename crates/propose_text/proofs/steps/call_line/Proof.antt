@@ -5,9 +5,9 @@ use mathlib.Core.Bool.{true}
 use native.Mathlib.Omega.{arith}
 use borrow.Author.Tests.{not-true, not-false}
 use lib.ListN.{getD}
-use Rattle.text_laws.specs.Lines.{isWords, wordsIn}
+use Rattle.propose_lines.specs.Lines.{isWords, wordsIn}
 use Rattle.text_laws.specs.Steps.{readingOf, sampledOf, callLine}
-use Rattle.text_laws.proofs.Words.{read-at}
+use Rattle.propose_lines.proofs.Words.{read-at}
 use borrow.Author.Needs.{needs}
 use Rattle.propose_text.proofs.steps.call_line.Statement.{statement}
 use Rattle.propose_text.proofs.steps.call_line.Tie as tie

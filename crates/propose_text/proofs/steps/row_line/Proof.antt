@@ -4,7 +4,7 @@ use mathlib.Core.Path.{_≡_, sym, _∙_}
 use native.Mathlib.Omega.{arith}
 use borrow.Author.Tests.{le-leb, lt-leb, not-true, not-false}
 use lib.ListN.{length, take}
-use Rattle.text_laws.specs.Lines.{isWords}
+use Rattle.propose_lines.specs.Lines.{isWords}
 use Rattle.text_laws.specs.Steps.{slotsOf, rowWords, rowLine}
 use Rattle.propose_lines.proofs.Stored.{room-for}
 use Rattle.propose_text.proofs.Held.{held-part, held-length}

@@ -4,9 +4,9 @@ use mathlib.Core.Bool.{true}
 use native.Mathlib.Omega.{arith}
 use borrow.Author.Tests.{eq-eqb, ne-eqb, not-true, not-false}
 use Rattle.sampler_state.specs.State.{makeOf}
-use Rattle.text_laws.specs.Lines.{isWords, wordsIn}
+use Rattle.propose_lines.specs.Lines.{isWords, wordsIn}
 use Rattle.text_laws.specs.Steps.{settingsOf, settingsLine}
-use Rattle.text_laws.proofs.Words.{read-at}
+use Rattle.propose_lines.proofs.Words.{read-at}
 use borrow.Author.Needs.{needs}
 use Rattle.propose_text.proofs.steps.settings_line.Statement.{statement}
 use Rattle.propose_text.proofs.steps.settings_line.Tie as tie

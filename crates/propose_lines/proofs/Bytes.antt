@@ -8,7 +8,7 @@ use borrow.Author.Tests.{eq-eqb, ne-eqb, eqb-true}
 use lib.ListN.{length, take, drop, getD, length-append, take-append-drop}
 use lib.Seq.{drop-cons, length-take-le}
 use lib.Dec.{eqb}
-use Rattle.text_laws.specs.Names.{sameBytes}
+use Rattle.propose_lines.specs.Names.{sameBytes}
 
 pub differ : (a b : List ℕ) → (length a ≡ length b → ⊥) → sameBytes a b ≡ false
 unfolding sameBytes

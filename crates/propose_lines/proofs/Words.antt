@@ -5,7 +5,7 @@ use mathlib.Core.List.{List}
 use lib.ListN.{length, getD, take}
 use lib.Seq.{getD-take}
 use Rattle.arith.proofs.Lists.{grown-length, grown-read}
-use Rattle.text_laws.specs.Lines.{wordAt, wordOf, wordsIn}
+use Rattle.propose_lines.specs.Lines.{wordAt, wordOf, wordsIn}
 
 pub words-length : (k : ℕ) (line : List ℕ) → length (wordsIn k line) ≡ k
 unfolding wordsIn
