@@ -53,5 +53,6 @@ room-facts k at places e =
     let c = both (leb 1 k) (leb k 163) (b .0) in
     (leb-true 1 k (c .0), leb-true k 163 (c .1), leb-true (at + k) places (b .1))
 
-pub room-for : (k at places : ℕ) → 1 ≤ k → k ≤ 163 → at + k ≤ places → roomFor k at places ≡ true
-room-for k at places some few fit = rw (le-leb 1 k some, le-leb k 163 few, le-leb (at + k) places fit)
+-- the test of a number of words that is in range
+pub room-test : (k at places : ℕ) → 1 ≤ k → k ≤ 163 → roomFor k at places ≡ leb (at + k) places
+room-test k at places some few = rw (le-leb 1 k some, le-leb k 163 few)

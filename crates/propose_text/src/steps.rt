@@ -105,7 +105,7 @@ fn held(count: usize) -> usize
     if count < 8192 { count } else { 8192 }
 }
 
-// A row: its words go behind those that are there.
+// A row: its words go behind those that are there, as long as the array has room for them.
 fn row_line(r: Reader, line: &[u8], history: &mut [u64]) -> Step
     requires { ⌜ length (now history) ≡ 8192 ⌝ }
     ensures { λ t. ⌜ steppedOf t (now (history .exit)) ≡ rowLine (readingOf r (now (history .entry))) (now (line .entry)) ⌝ }
@@ -118,9 +118,6 @@ fn row_line(r: Reader, line: &[u8], history: &mut [u64]) -> Step
         return ending(14, sampler, at);
     }
     let k = 3 + 8 * slots as usize;
-    if at + k > 8192 {
-        return ending(14, sampler, at);
-    }
     if !propose_lines::read_words(line, k, history, at) {
         return ending(14, sampler, at);
     }
