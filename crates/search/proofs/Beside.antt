@@ -20,7 +20,7 @@ use Rattle.gp_model.specs.declared.Model.{Model}
 use Rattle.search.specs.declared.Search.{Search}
 use Rattle.search.specs.declared.Starts.{Starts}
 use Rattle.search.specs.Eights.{Words, startsOf, columnOf, pointsOf, keptEachOf}
-use Rattle.search.specs.Search.{pointOf, scoreOf, advanceOf}
+use Rattle.search.specs.Search.{pointOf, scoreOf, candidateOf, advanceOf}
 
 -- the word after one point more
 pub word-after : (p d w : ℕ) → movedOf d (movedOf (p * d) w) ≡ movedOf (suc p * d) w
@@ -69,6 +69,14 @@ pub advance-add : (m : Model) (i k : ℕ) (s : Search) → advanceOf m k (advanc
 unfolding advanceOf
 advance-add m i zero s = let e : i + 0 ≡ i = omega arith in rw e
 advance-add m i (suc k) s = let e : i + suc k ≡ suc (i + k) = omega arith in rw (e, advance-add m i k s)
+
+-- one candidate more
+pub advance-one : (m : Model) (i k : ℕ) (s t u : Search) → k ≡ suc i → t ≡ advanceOf m i s → u ≡ candidateOf m t → u ≡ advanceOf m k s
+unfolding advanceOf
+advance-one m i k s t u h e f = rw (h, f, e)
+
+pub candidate-nonzero : (m : Model) (t u : Search) → u ≡ candidateOf m t → Nonzero (t .word) → Nonzero (u .word)
+candidate-nonzero m t u e h = rw e (moved-nonzero (m .d) (t .word) h)
 
 -- ---- eight candidates
 pub starts-at : (d w : ℕ) (t : Starts) → t ≡ startsOf d w → (p : ℕ) → p < 8 → getD (t .words) p 0 ≡ movedOf (p * d) w

@@ -38,7 +38,7 @@ loop-again : tie.Need-loop-again Inv-loop μ-loop
 loop-again c = (search needs, c .kernel-row .ensures)
 
 returns : tie.Need-returns Inv-loop μ-loop
-returns c = let e : c .before .loop .i ≡ c .before .before .before .before .args .n = omega arith in cc
+returns c = let e : c .before .loop .i ≡ c .before .before .before .before .args .n = omega arith in rw (c .before .loop .inv .1, e)
 
 pub kernel-matrix-spec : {M : Type 1} → statement M
 kernel-matrix-spec =

@@ -53,7 +53,7 @@ unfolding sumOver
 loop-again c = (search needs, rw (c .before .before .loop .inv .1, add-one))
 
 returns : tie.Need-returns Inv-loop μ-loop
-returns c = let e : c .before .loop .i ≡ c .before .before .args .n = omega arith in cc
+returns c = let e : c .before .loop .i ≡ c .before .before .args .n = omega arith in rw (c .before .loop .inv .1, e)
 
 pub column-sum-spec : {M : Type 1} → statement M
 column-sum-spec =

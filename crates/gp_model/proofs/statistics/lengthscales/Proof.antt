@@ -52,7 +52,7 @@ loop-again c =
     (search needs, rw (e, l .inv .1, add-one) (grown-set 20 (λ xs j. lengthscaleOf (a .x .now) (a .n) (a .d) j) (l .j) (omega arith)))
 
 returns : tie.Need-returns Inv-loop μ-loop
-returns c = let e : c .before .loop .j ≡ c .before .before .before .args .d = omega arith in cc
+returns c = let e : c .before .loop .j ≡ c .before .before .before .args .d = omega arith in rw (c .before .loop .inv .1, e)
 
 pub lengthscales-spec : {M : Type 1} → statement M
 lengthscales-spec =

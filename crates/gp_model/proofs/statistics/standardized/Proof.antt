@@ -54,7 +54,7 @@ loop-again c =
     (search needs, rw (m .mean .ensures, c .before .before .before .value-deviation .ensures, l .inv .1, add-one) (grown-set 100 (λ xs i. standardOf (m .before .before .args .y .now) i) (l .i) (omega arith)))
 
 returns : tie.Need-returns Inv-loop μ-loop
-returns c = let e : c .before .loop .i ≡ length (c .before .before .before .before .before .args .y .now) = omega arith in cc
+returns c = let e : c .before .loop .i ≡ length (c .before .before .before .before .before .args .y .now) = omega arith in rw (c .before .loop .inv .1, e)
 
 pub standardized-spec : {M : Type 1} → statement M
 standardized-spec =

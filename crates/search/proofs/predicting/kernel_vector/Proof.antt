@@ -72,7 +72,7 @@ loop-again c =
     (search needs, rw (c .similarity .ensures, e, l .inv .1, add-one (l .i)) (grown-set 100 (λ xs i. similarityOf (g .p .now) (rowOf (g .x .now) (g .d) i) (g .lengthscales .now)) (l .i) (omega arith)))
 
 returns : tie.Need-returns Inv-loop μ-loop
-returns c = let e : c .before .loop .i ≡ c .before .before .before .before .before .args .n = omega arith in cc
+returns c = let e : c .before .loop .i ≡ c .before .before .before .before .before .args .n = omega arith in rw (c .before .loop .inv .1, e)
 
 pub kernel-vector-spec : {M : Type 1} → statement M
 kernel-vector-spec =

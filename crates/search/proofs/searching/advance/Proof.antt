@@ -2,9 +2,9 @@
 use Prim.Native.Nat.{ℕ, suc, _+_, _-_, _≤_}
 use mathlib.Core.Path.{_≡_, refl, ap, _∙_}
 use native.Mathlib.Omega.{arith}
-use Rattle.rng_util.proofs.Nonzero.{Nonzero, moved-nonzero}
+use Rattle.rng_util.proofs.Nonzero.{Nonzero}
 use Rattle.search.specs.Search.{partsOf, advanceOf}
-use Rattle.search.proofs.Beside.{advance-add, advance-nonzero}
+use Rattle.search.proofs.Beside.{advance-add, advance-nonzero, advance-one, candidate-nonzero}
 use borrow.Author.Needs.{needs}
 use Rattle.search.proofs.searching.advance.Statement.{statement}
 use Rattle.search.proofs.searching.advance.Tie as tie
@@ -60,13 +60,13 @@ loop2-less : tie.Need-loop2-less Inv-loop μ-loop Inv-loop2 μ-loop2
 loop2-less c = search needs
 
 loop2-again : tie.Need-loop2-again Inv-loop μ-loop Inv-loop2 μ-loop2
-unfolding advanceOf
 loop2-again c =
     let l = c .before .before .loop2 in
     let f = c .before .before .before .before .loop in
     let g = c .before .before .before .before .before .before .before .before .args in
+    let m = partsOf (g .x-train .now) (g .lengthscales .now) (g .cholesky .now) (g .alpha .now) (g .f-best) (g .n) (g .d) in
     let e : l .i + 1 - f .i ≡ suc (l .i - f .i) = omega arith in
-    (search needs, search needs, rw (c .candidate .ensures, l .inv .2, e), rw (c .candidate .ensures) (moved-nonzero (g .d) (l .s .word) (l .inv .3)))
+    (search needs, search needs, advance-one m (l .i - f .i) (l .i + 1 - f .i) (f .s) (l .s) (c .candidate .result) e (l .inv .2) (c .candidate .ensures), candidate-nonzero m (l .s) (c .candidate .result) (c .candidate .ensures) (l .inv .3))
 
 returns : tie.Need-returns Inv-loop μ-loop Inv-loop2 μ-loop2
 returns c =

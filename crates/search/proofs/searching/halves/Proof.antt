@@ -39,7 +39,7 @@ loop-again c =
     (search needs, rw (l .inv .1, sym (replicate-append-replicate (l .j) 1 h)) (padded-set-at 20 (replicate (l .j) h) (l .j) h (length-replicate (l .j) h) (omega arith)))
 
 returns : tie.Need-returns Inv-loop μ-loop
-returns c = let e : c .before .loop .j ≡ c .before .before .args .d = omega arith in cc
+returns c = let e : c .before .loop .j ≡ c .before .before .args .d = omega arith in rw (c .before .loop .inv .1, e)
 
 pub halves-spec : {M : Type 1} → statement M
 halves-spec =
