@@ -1,10 +1,9 @@
 -- The definitions of texts at single points, computed. Assumes nothing.
-use Prim.Native.Nat.{ℕ, _+_, _^_}
+use Prim.Native.Nat.{ℕ, _^_}
 use mathlib.Core.Path.{_≡_, refl}
 use mathlib.Core.Bool.{Bool, true, false}
 use mathlib.Core.List.{List, [], _∷_, _++_}
 use native.Mathlib.Omega.{arith}
-use lib.Dec.{eqb, leb}
 use lib.IntN.{pos}
 use lib.Ieee.{binary64, ofBits, le, lt, eq}
 use lib.ListN.{length, take, drop}
