@@ -1,3 +1,4 @@
+mod Cases
 pub mod Tests
 pub mod Accepted
 pub mod Back

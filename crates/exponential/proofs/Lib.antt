@@ -1,3 +1,4 @@
+mod Cases
 pub mod ExpLaws
 mod ExpRange
 mod FallingLaws

@@ -1,6 +1,7 @@
 -- The definitions at single points, computed; the words are what the unchanged Rust gives, with document 01's exp and sqrt. Assumes nothing.
 use Prim.Native.Nat.{ℕ}
 use mathlib.Core.Path.{_≡_, refl}
+use mathlib.Core.Bool.{false}
 use mathlib.Core.List.{List, [], _∷_}
 use lib.IntN.{pos}
 use lib.Ieee.{Float, binary64, ofBits, toBits, round, add, sub, mul, div, neg, lt, isNan, ofInt}
@@ -9,7 +10,7 @@ use Rattle.arith.specs.Outcome.{numberOf, wordOf}
 use Rattle.arith.specs.Rounding.{nearestOf, roundOf}
 use Rattle.root.specs.Sqrt.{isqrt, rootOf, sqrtOf}
 use Rattle.arith.specs.Sums.{sumOver}
-use Rattle.kernel.specs.Matern.{scaledRootOf, decayOf, matern52Of}
+use Rattle.kernel.specs.Matern.{square, fits, squaredDistanceOf, sqrt5, polynomialOf, scaledRootOf, decayOf, atOf, squaredOf, matern52Of}
 
 abbrev float : ℕ → Float
 float n = ofInt binary64 (pos n)
@@ -39,3 +40,20 @@ Columns =
 columns : Columns
 unfolding matern52Of scaledRootOf decayOf sumOver expOf hornerOf reducedOf scaledOf wholeOf nearestOf roundOf sqrtOf rootOf isqrt ofBits toBits round add sub mul div neg lt isNan ofInt
 columns = (refl, refl)
+
+-- the differences 3 and 4 under the lengthscales 1 and 2 have the squares 9 and 4; document 01's constant, by its decimals; 1 + 3 + 5/3 × 3
+abbrev Parts : Type 0
+Parts =
+    (squaredDistanceOf (float 1 ∷ float 2 ∷ []) (float 4 ∷ float 6 ∷ []) (float 1 ∷ float 2 ∷ []) ≡ float 13)
+    × (numberOf (squaredOf (float 1 ∷ []) [] (float 1 ∷ [])) ≡ 11)
+    × (wordOf (squaredOf (float 1 ∷ []) (float 3 ∷ []) (float 1 ∷ [])) ≡ 0x4010000000000000)
+    × (fits (float 1 ∷ []) (float 1 ∷ []) [] ≡ false)
+    × (square (float 3) ≡ float 9)
+    × (sqrt5 ≡ round binary64 false 2236213562373095 1000000000000000)
+    × (scaledRootOf (float 4) ≡ mul binary64 (float 2) sqrt5)
+    × (polynomialOf (float 3) (float 3) ≡ float 9)
+    × (wordOf (atOf (float 1) (float 1)) ≡ 0x3fe0c40ff2efde8c)
+
+parts : Parts
+unfolding squaredOf scaledRootOf decayOf sumOver expOf hornerOf reducedOf scaledOf wholeOf nearestOf roundOf sqrtOf rootOf isqrt ofBits toBits round add sub mul div neg lt isNan ofInt
+parts = (refl, refl, refl, refl, refl, refl, refl, refl, refl)

@@ -1,3 +1,4 @@
+mod Cases
 pub mod LnLaws
 pub mod LnMono
 mod LnSize

@@ -1,3 +1,4 @@
+mod Cases
 mod RootRound
 pub mod RootSign
 pub mod RootTop

@@ -1,9 +1,24 @@
--- The settings at the ends of their ranges, computed. Assumes nothing.
+-- The defaults, the setters, and the settings at the ends of their ranges, computed. Assumes nothing.
 use Prim.Native.Nat.{_^_, _+_}
 use mathlib.Core.Path.{_≡_, refl}
 use mathlib.Core.Bool.{true, false}
-use lib.Ieee.{binary64, ofBits, lt, le, eq}
-use Rattle.settings.specs.Settings.{newOf, withStartup, withCandidates, withNoise, withSeed, withSlots, settingsOk}
+use lib.Ieee.{binary64, ofBits, ofInt, round, div, lt, le, eq}
+use lib.IntN.{pos}
+use Rattle.settings.specs.Settings.{noise₀, newOf, withStartup, withCandidates, withNoise, withSeed, withSlots, settingsOk}
+
+-- document 01's defaults, 1e-6 as the float nearest to it, and each field set in turn
+abbrev Fields : Type 0
+Fields =
+    (newOf 7 ≡ record { «n_startup_trials» = 10; «n_candidates» = 1000; «noise_variance» = div binary64 (ofInt binary64 (pos 1)) (ofInt binary64 (pos 1000000)); seed = 7; slots = 20 })
+    × (withStartup (newOf 7) 1 ≡ record { «n_startup_trials» = 1; «n_candidates» = 1000; «noise_variance» = noise₀; seed = 7; slots = 20 })
+    × (withCandidates (newOf 7) 1 ≡ record { «n_startup_trials» = 10; «n_candidates» = 1; «noise_variance» = noise₀; seed = 7; slots = 20 })
+    × (withNoise (newOf 7) (ofBits binary64 0) ≡ record { «n_startup_trials» = 10; «n_candidates» = 1000; «noise_variance» = ofBits binary64 0; seed = 7; slots = 20 })
+    × (withSeed (newOf 7) 1 ≡ record { «n_startup_trials» = 10; «n_candidates» = 1000; «noise_variance» = noise₀; seed = 1; slots = 20 })
+    × (withSlots (newOf 7) 1 ≡ record { «n_startup_trials» = 10; «n_candidates» = 1000; «noise_variance» = noise₀; seed = 7; slots = 1 })
+
+fields : Fields
+unfolding ofBits ofInt round div
+fields = (refl, refl, refl, refl, refl, refl)
 
 abbrev Ranges : Type 0
 Ranges =

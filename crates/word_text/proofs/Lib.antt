@@ -1,3 +1,3 @@
+mod Cases
 pub mod Digits
-mod Examples
 pub mod RoundTrip
