@@ -3,13 +3,13 @@ use mathlib.Core.Path.{_≡_, refl, sym, ap, _∙_, subst}
 use mathlib.Core.Logic.{inl, inr}
 use mathlib.Core.Bool.{Bool, true, false, not, _&&_, cond, and-false}
 use mathlib.Core.List.{List, [], _∷_, _++_}
-use Prim.Native.Nat.{ℕ, zero, suc, _+_, _-_, _≤_, _<_}
-use native.Mathlib.Nat.{eq-or-lt-of-le, le-of-suc-le-suc, not-suc-le-zero}
+use Prim.Native.Nat.{ℕ, zero, suc, _+_, _-_, _*_, _≤_, _<_}
+use native.Mathlib.Nat.{eq-or-lt-of-le, le-of-suc-le-suc, mul-le-mul-right, not-suc-le-zero, suc-mul}
 use native.Mathlib.Numerals.{add-one}
 use native.Mathlib.Omega.{arith}
 use lib.Dec.{T, T-not, ltb}
-use lib.ListN.{length, getD, set, take, drop, replicate, length-append, length-replicate, List·getD-append}
-use lib.Seq.{append-snoc, set-append-seam, getD-append-seam, take-append-seam}
+use lib.ListN.{length, getD, set, take, drop, replicate, length-append, length-replicate, List·getD-append, getD-replicate}
+use lib.Seq.{append-snoc, set-append-seam, getD-append-seam, getD-append-add, take-append-seam}
 use lib.Ieee.{Float, nan, binary64, ofBits}
 use lib.Ieee.Bits as bits
 use lib.Ieee.Bits.{is-true}
@@ -63,6 +63,12 @@ module _ {A : Type 0} where
 
   pub filled-at : (z : A) (places : ℕ) (xs : List A) (i : ℕ) (d : A) → i < length xs → getD (filled z places xs) i d ≡ getD xs i d
   filled-at z places xs i d h = List·getD-append xs (replicate (places - length xs) z) d i h
+
+  -- past the list
+  pub filled-past : (z : A) (places : ℕ) (xs : List A) (i : ℕ) (d : A) → length xs ≤ i → i < places → getD (filled z places xs) i d ≡ z
+  filled-past z places xs i d h g =
+      let e : length xs + (i - length xs) ≡ i = omega arith in
+      ap (λ (k : ℕ). getD (filled z places xs) k d) (sym e) ∙ getD-append-add xs (replicate (places - length xs) z) (i - length xs) d ∙ getD-replicate (places - length xs) (i - length xs) z d (omega arith)
 
   -- the part of the array that the list fills
   pub filled-take : (z : A) (places : ℕ) (xs : List A) → take (length xs) (filled z places xs) ≡ xs
@@ -276,3 +282,9 @@ places-full (suc n) t e i l = go (λ q m. places-full n t q i m) (t n) refl (pla
 pub eight-filled : {A : Type 0} (z : A) (f : ℕ → A) (p : ℕ) → p ≡ 8 → filled z 8 (listOf f p) ≡ listOf f 8
 unfolding grown
 eight-filled z f p e = rw e
+
+-- ---- tables, row after row
+
+-- a row ends within its table
+pub row-end : (i n d : ℕ) → i < n → i * d + d ≤ n * d
+row-end i n d h = rw (suc-mul i d) at (mul-le-mul-right d h)

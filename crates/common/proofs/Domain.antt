@@ -33,7 +33,7 @@ use Rattle.rng_util.proofs.Nonzero.{nonzero-test, next-nonzero}
 use Rattle.rng_util.proofs.Unit as unit
 use Rattle.distribution.specs.declared.IntDistribution.{IntDistribution}
 use Rattle.distribution.specs.declared.Distribution.{Distribution}
-use Rattle.distribution.specs.Shape.{power, shapeOf, intShape}
+use Rattle.distribution.specs.Shape.{power, shapeOf, intShape, continuousOf}
 use Rattle.distribution.proofs.Facts.{Bounded, IntRules, int-rules}
 use Rattle.encoding.specs.declared.InternalBounds.{InternalBounds}
 use Rattle.encoding.specs.Bounds.{endsOf, boundsOf}
@@ -44,7 +44,7 @@ use Rattle.common.specs.GridParts.{stepsTo, StepFits, OutcomeFits}
 use Rattle.common.specs.Random.{rangeOf, logRange}
 use Rattle.common.specs.RandomParts.{LogFits}
 use Rattle.common.proofs.Saturate.{exact}
-use Rattle.encoding.proofs.EndLaws.{FloatsFit, logScale, continuous, limit, EndRules, HasEnds, bounds, whole-within, well-formed}
+use Rattle.encoding.proofs.EndLaws.{FloatsFit, logScale, limit, EndRules, HasEnds, bounds, whole-within, well-formed}
 
 -- ---- powers of two
 
@@ -272,7 +272,7 @@ pub record LogDrawn (d : Distribution) (u : Float) : Type 0 where
   pub size : Within (power (pos 53)) value
   pub least : T (le (power (negsuc 52)) value)
 
-pub log-drawn : (d : Distribution) → T (continuous d) → FloatsFit d → T (shapeOf d) → logScale d ≡ true → (u : Float) → Between (ofBits binary64 0) one u → LogDrawn d u
+pub log-drawn : (d : Distribution) → T (continuousOf d) → FloatsFit d → T (shapeOf d) → logScale d ≡ true → (u : Float) → Between (ofBits binary64 0) one u → LogDrawn d u
 log-drawn d c f t l u b =
     let r = bounds d c f t in
     let v = unscaled true (r .lo) (r .hi) u (subst (λ (g : Bool). EndRules g (r .lo) (r .hi)) l (r .rules)) b in

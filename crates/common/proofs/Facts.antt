@@ -26,7 +26,7 @@ use Rattle.distribution.specs.declared.IntDistribution.{IntDistribution}
 use Rattle.distribution.specs.declared.CategoricalDistribution.{CategoricalDistribution}
 use Rattle.distribution.specs.declared.Distribution.{Distribution}
 use Rattle.distribution.specs.declared.ParamValue.{ParamValue}
-use Rattle.distribution.specs.Shape.{power, floatShape, intShape, shapeOf}
+use Rattle.distribution.specs.Shape.{power, floatShape, intShape, shapeOf, continuousOf}
 use Rattle.distribution.specs.Taken.{takenOf}
 use Rattle.distribution.proofs.Facts.{float-rules, int-rules, categorical-rules, float-taken, int-taken}
 use Rattle.encoding.specs.declared.InternalBounds.{InternalBounds}
@@ -36,7 +36,7 @@ use Rattle.common.specs.Decode.{one, inside, floatOf, intOf, decodedOf, 
 use Rattle.encoding.specs.Encode.{toInternalOf}
 use Rattle.common.specs.Grid.{clampOf, floatGrid, clampZ, intGrid}
 use Rattle.common.specs.Random.{settled, fromUnit, fromWhole, rangeOf, logRange, logFloat, logFloatRandom, steppedFloatRandom, linearFloatRandom, floatRandom, logIntRandom, steppedIntRandom, linearIntRandom, intRandom, categoricalRandom, randomOf, sampleRandomOf}
-use Rattle.encoding.proofs.EndLaws.{FloatFits, FloatsFit, logScale, continuous, limit, EndRules, Scalable, scaled, looser, whole-scalable, end-rules, has-ends}
+use Rattle.encoding.proofs.EndLaws.{FloatFits, FloatsFit, logScale, limit, EndRules, Scalable, scaled, looser, whole-scalable, end-rules, has-ends}
 use Rattle.common.proofs.Domain.{linear-range, unscaled, unit-between, log-drawn}
 use Rattle.common.proofs.Clamp.{clamp-between, clamp-whole, float-grid-real, take-float, float-inside, int-inside}
 use Rattle.common.proofs.Steps.{in-range, up-to}
@@ -271,7 +271,7 @@ pub record Encoded (d : Distribution) (v : ParamValue) : Type 0 where
 encoded : (d : Distribution) (v : ParamValue) (x : Float) → toInternalOf v d ≡ scaleOf (logScale d) x → Scalable 52 (logScale d) x → Encoded d v
 encoded d v x e l = let s = scaled 52 (encodedLimit true) ln-taken (logScale d) x l in record { value = s .value; is = e ∙ s .is; size = s .size; fit = s .fit }
 
-pub encode-accepted : (d : Distribution) (v : ParamValue) → T (continuous d) → ValueFits v → T (shapeOf d) → T (takenOf d v) → Encoded d v
+pub encode-accepted : (d : Distribution) (v : ParamValue) → T (continuousOf d) → ValueFits v → T (shapeOf d) → T (takenOf d v) → Encoded d v
 encode-accepted (Distribution.Float d) (ParamValue.Float v) c f t k =
     let r = float-taken d v k in
     encoded (Distribution.Float d) (ParamValue.Float v) v (unfold toInternalOf in rw (is-true (shapeOf (Distribution.Float d)) t, is-true (takenOf (Distribution.Float d) (ParamValue.Float v)) k))

@@ -5,6 +5,7 @@ use mathlib.Core.List.{List}
 use lib.Dec.{eqb, leb}
 use lib.ListN.{getD}
 use lib.Ieee.{Float, nan, binary64, toBits, ofBits}
+use Rattle.distribution.specs.Shape.{continuousOf}
 use Rattle.arith.specs.Lists.{every, placesOf}
 use Rattle.distribution.specs.declared.Distribution.{Distribution}
 use Rattle.encoding.specs.declared.InternalBounds.{InternalBounds}
@@ -27,12 +28,6 @@ abbrev pub boundsAre : InternalBounds → Float → Float → Bool
 boundsAre (InternalBounds.Ends a b) lo hi = sameBits a lo && sameBits b hi
 boundsAre InternalBounds.Absent lo hi = sameBits (ofBits binary64 0) lo && sameBits (ofBits binary64 0) hi
 boundsAre (InternalBounds.Refused n) lo hi = false
-
--- "A dimension is continuous unless it is a choice."
-abbrev pub continuousOf : Distribution → Bool
-continuousOf (Distribution.Float d) = true
-continuousOf (Distribution.Int d) = true
-continuousOf (Distribution.Categorical d) = false
 
 -- the dimension of a distribution; that of a malformed one is malformed
 abbrev pub withBounds : Distribution → InternalBounds → DimensionInfo

@@ -1,7 +1,8 @@
 // Dimensions: a distribution beside its bounds.
 ghost use mathlib.Core.Path.{_≡_};
 ghost use Prim.Native.Nat.{_<_};
-ghost use Rattle.dimensions.specs.Dimensions.{sameBits, boundsAre, continuousOf, withBounds, dimensionOf, dimensionOk, dimensionsOk};
+ghost use Rattle.distribution.specs.Shape.{continuousOf};
+ghost use Rattle.dimensions.specs.Dimensions.{sameBits, boundsAre, withBounds, dimensionOf, dimensionOk, dimensionsOk};
 use crate::DimensionInfo;
 use distribution::Distribution;
 use encoding::InternalBounds;

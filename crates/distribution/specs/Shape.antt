@@ -1,6 +1,6 @@
 -- Document 01, "Distribution": which are well-formed. Every limit on a float is a comparison of floats, so a NaN fails. Definitions only.
 use Prim.Native.Nat.{_^_}
-use mathlib.Core.Bool.{Bool, false, not, _&&_, _||_, cond}
+use mathlib.Core.Bool.{Bool, true, false, not, _&&_, _||_, cond}
 use lib.Dec.{leb, eqb}
 use lib.IntN.{ℤ, pos, negsuc, negℤ}
 use lib.Signed.{leZ}
@@ -53,3 +53,9 @@ unfolding floatShape intShape categoricalShape
 shapeOf (Distribution.Float d) = floatShape d
 shapeOf (Distribution.Int d) = intShape d
 shapeOf (Distribution.Categorical d) = categoricalShape d
+
+-- "A dimension is continuous unless it is a choice."
+abbrev pub continuousOf : Distribution → Bool
+continuousOf (Distribution.Float d) = true
+continuousOf (Distribution.Int d) = true
+continuousOf (Distribution.Categorical d) = false

@@ -23,7 +23,7 @@ use Rattle.distribution.specs.declared.FloatDistribution.{FloatDistribution}
 use Rattle.distribution.specs.declared.IntDistribution.{IntDistribution}
 use Rattle.distribution.specs.declared.CategoricalDistribution.{CategoricalDistribution}
 use Rattle.distribution.specs.declared.Distribution.{Distribution}
-use Rattle.distribution.specs.Shape.{power, shapeOf, floatShape, intShape}
+use Rattle.distribution.specs.Shape.{power, shapeOf, floatShape, intShape, continuousOf}
 use Rattle.distribution.proofs.Facts.{Bounded, float-rules, int-rules}
 use Rattle.encoding.specs.declared.InternalBounds.{InternalBounds}
 use Rattle.encoding.specs.Bounds.{pairOf, scaleOf, endsOf, boundsOf}
@@ -44,12 +44,6 @@ abbrev pub logScale : Distribution → Bool
 logScale (Distribution.Float d) = d .«log_scale»
 logScale (Distribution.Int d) = d .«log_scale»
 logScale (Distribution.Categorical d) = false
-
--- "A dimension is continuous unless it is a choice."
-abbrev pub continuous : Distribution → Bool
-continuous (Distribution.Float d) = true
-continuous (Distribution.Int d) = true
-continuous (Distribution.Categorical d) = false
 
 -- ---- what its ends keep
 
@@ -180,7 +174,7 @@ int-scalable d t =
       whole-scalable (d .«log_scale») (d .high) (r .high) (λ l. leZ-trans (pos 1) (d .low) (d .high) (r .log l) (r .order)),
     )
 
-pub bounds : (d : Distribution) → T (continuous d) → FloatsFit d → T (shapeOf d) → HasEnds (logScale d) (boundsOf d)
+pub bounds : (d : Distribution) → T (continuousOf d) → FloatsFit d → T (shapeOf d) → HasEnds (logScale d) (boundsOf d)
 unfolding endsOf shapeOf
 bounds (Distribution.Float d) c f t =
     let s = float-scalable d f t in
@@ -196,7 +190,7 @@ unfolding endsOf
 choice-bounds d t = well-formed (Distribution.Categorical d) t
 
 -- the same of ends that are given
-pub has-ends : (d : Distribution) → T (shapeOf d) → (lo hi : Float) → boundsOf d ≡ InternalBounds.Ends lo hi → T (continuous d)
+pub has-ends : (d : Distribution) → T (shapeOf d) → (lo hi : Float) → boundsOf d ≡ InternalBounds.Ends lo hi → T (continuousOf d)
 has-ends (Distribution.Float d) t lo hi e = tt
 has-ends (Distribution.Int d) t lo hi e = tt
 has-ends (Distribution.Categorical d) t lo hi e = let a = choice-bounds d t in let z : _≡_ {A = ℕ} 0 1 = cc in absurd (never z)

@@ -9,14 +9,13 @@ use lib.Dec.{T, ltb, ltb→lt}
 use lib.ListN.{length, getD}
 use lib.Ieee.Fits.{and-r}
 use Rattle.arith.specs.Lists.{placesOf}
-use Rattle.arith.proofs.Lists.{every-each, places-at}
+use Rattle.arith.proofs.Lists.{every-each, places-at, row-end}
 use Rattle.param_mapping.specs.declared.Mapped.{Mapped}
 use Rattle.history.specs.Cells.{Cells}
 use Rattle.history_rows.specs.Rows.{widthOf, rowCount, rowAt}
 use Rattle.param_mapping.specs.Mapping.{none}
 use Rattle.history_rows.specs.Slots.{slotWith}
 use Rattle.history.specs.Training.{coversOf, trainsOf, keptOf}
-use Rattle.history_rows.proofs.Recent.{row-inside}
 
 -- place p of a table of d columns is in row p / d, column p % d
 pub cell : (p rows d : ℕ) → p < rows * d → (p / d < rows) × (p % d < d)
@@ -55,7 +54,7 @@ pub asked : (n m : ℕ) (mapping : List Mapped) (columns r kept : List ℕ) (p :
 asked n m mapping columns r kept p t e l =
     let q = cell p (length kept) (length columns) l in
     let i = getD kept (p / length columns) 0 in
-    let s = row-inside i m (widthOf n) (t .row (p / length columns) (q .0)) in
+    let s = row-end i m (widthOf n) (t .row (p / length columns) (q .0)) in
     record {
       many = le-trans (zero-lt-suc (p % length columns)) (q .1);
       row = q .0;

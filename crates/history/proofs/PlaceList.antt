@@ -5,11 +5,12 @@ use mathlib.Core.Path.{_≡_, refl}
 use mathlib.Core.Bool.{Bool, true, false, cond}
 use mathlib.Core.List.{List, [], _∷_, _++_}
 use lib.ListN.{length, take, length-append}
+use Rattle.distribution.specs.Shape.{continuousOf}
 use Rattle.arith.specs.Lists.{filled, placesOf}
 use Rattle.arith.proofs.Lists.{filled-set-at, filled-take, filled-length, places-length}
 use Rattle.history.specs.declared.Places.{Places}
 use Rattle.dimensions.specs.declared.DimensionInfo.{DimensionInfo}
-use Rattle.dimensions.specs.Dimensions.{dimensionAt, continuousOf, columnsOf}
+use Rattle.dimensions.specs.Dimensions.{dimensionAt, columnsOf}
 use Rattle.history.specs.Places.{placesIn, withPlace}
 
 pub place-more : (xs : List ℕ) (i : ℕ) (test : Bool) → length xs < 100 → withPlace (filled 0 100 xs) (length xs) i test ≡ placesIn (cond test (xs ++ (i ∷ [])) xs)

@@ -1,6 +1,6 @@
 pub mod Border
 mod Cases
-mod First
+pub mod First
 pub mod Parts
 pub mod Passed
 pub mod Recent

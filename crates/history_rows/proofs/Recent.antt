@@ -3,17 +3,13 @@ use Prim.Native.Nat.{ℕ, _+_, _-_, _*_, _/_, _%_, _≤_, _<_}
 use mathlib.Core.Path.{_≡_, refl, sym, ap, _∙_, subst}
 use mathlib.Core.Bool.{Bool, true, false, cond}
 use mathlib.Core.List.{List, [], _∷_}
-use native.Mathlib.Nat.{le-trans, mul-le-mul-right, div-add-mod', mul-div-cancel, div-mul-le-self, suc-mul, add-mul}
+use native.Mathlib.Nat.{le-trans, div-add-mod', mul-div-cancel, div-mul-le-self, add-mul}
 use native.Mathlib.Omega.{arith}
 use lib.Dec.{T, leb, eqb→eq}
 use lib.ListN.{length, take, drop, length-drop}
 use lib.Seq.{take-all}
 use borrow.Author.Tests.{leb-true, leb-false}
 use Rattle.history_rows.specs.Rows.{widthOf, wholeRows, rowCount, recentCount, olderOf, recentOf}
-
--- row i lies within m rows
-pub row-inside : (i m w : ℕ) → i < m → i * w + w ≤ m * w
-row-inside i m w h = subst (λ (k : ℕ). k ≤ m * w) (suc-mul i w) (mul-le-mul-right w h)
 
 -- whole rows fill their words
 pub whole-length : (n : ℕ) (h : List ℕ) → T (wholeRows n h) → length h ≡ rowCount n h * widthOf n

@@ -1,13 +1,14 @@
--- Test 7 as the code makes it: each present slot against the first recent slot of its id. Definitions only.
+-- The tests of a row as the code makes them: 7 compares each present slot with the first recent slot of its id. Definitions only.
 use Prim.Native.Nat.{ℕ}
-use mathlib.Core.Bool.{Bool, not, _||_}
+use mathlib.Core.Bool.{Bool, cond, not, _||_}
 use mathlib.Core.List.{List}
-use lib.Dec.{ltb}
+use lib.Dec.{eqb, ltb}
 use Rattle.arith.specs.Lists.{every, placeOf}
 use Rattle.history_rows.specs.Rows.{rowAt, slotAt}
 use Rattle.slots.specs.Slot.{idOf}
 use Rattle.slots.specs.Slot.{present, slotRead, readsEqual}
 use Rattle.history_rows.specs.Slots.{slotWith}
+use Rattle.history_rows.specs.Tests.{rowOk, slotsOk, idsOnce}
 
 -- the first of m rows that has the id, or m
 unfoldable pub firstRowWith : ℕ → ℕ → List ℕ → ℕ → ℕ
@@ -25,3 +26,7 @@ likeFirst n m r v = not (present v) || readsEqual (slotRead (firstSlotWith n m r
 unfoldable pub rowLikeFirst : ℕ → ℕ → List ℕ → List ℕ → Bool
 unfolding likeFirst
 rowLikeFirst n m r row = every n (λ s. likeFirst n m r (slotAt row s))
+
+-- the row passes the test of that number, 4 to 7
+abbrev pub passesOf : ℕ → ℕ → ℕ → List ℕ → List ℕ → Bool
+passesOf number n m r row = cond (eqb number 4) (rowOk row) (cond (eqb number 5) (slotsOk n row) (cond (eqb number 6) (idsOnce n row) (rowLikeFirst n m r row)))

@@ -3,66 +3,15 @@ ghost use mathlib.Core.Path.{_≡_};
 ghost use Prim.Native.Nat.{_*_, _≤_, _<_};
 ghost use lib.ListN.{length};
 ghost use Rattle.arith.specs.Lists.{every};
-ghost use Rattle.history_rows.specs.First.{firstRowWith, likeFirst, rowLikeFirst};
+ghost use Rattle.history_rows.specs.First.{firstRowWith, likeFirst, rowLikeFirst, passesOf};
 ghost use Rattle.history_rows.specs.Recent.{recentPart};
 ghost use Rattle.history_rows.specs.Rows.{widthOf, rowAt, slotAt, rowCount, olderOf, recentOf};
-ghost use Rattle.history_rows.specs.Tests.{rowOk, slotsOk, idsOnce, rowsAgreeing, firstOf, recentTests, refusalOf};
+ghost use Rattle.history_rows.specs.Tests.{firstOf, recentTests, refusalOf};
 ghost use Rattle.slots.specs.Slot.{slotRead};
 ghost use Rattle.history_rows.specs.Slots.{slotWith};
 use crate::RecentRows;
 use crate::rows;
 use distribution::Read;
-
-// Whether every state and objective is good.
-fn rows_ok(n: usize, m: usize, r: &[u64]) -> bool
-    requires { ⌜ (n ≤ 20) × (length (now r) ≡ m * widthOf n) ⌝ }
-    ensures { λ r′. ⌜ r′ ≡ every m (λ i. rowOk (rowAt n (now (r .entry)) i)) ⌝ }
-{
-    let w = 3 + 8 * n;
-    let mut i = 0;
-    while i < m {
-        let at = i * w;
-        if !rows::row_ok(&r[at..at + w]) {
-            return false;
-        }
-        i += 1;
-    }
-    true
-}
-
-// Whether every slot is good.
-fn all_slots_ok(n: usize, m: usize, r: &[u64]) -> bool
-    requires { ⌜ (n ≤ 20) × (length (now r) ≡ m * widthOf n) ⌝ }
-    ensures { λ r′. ⌜ r′ ≡ every m (λ i. slotsOk n (rowAt n (now (r .entry)) i)) ⌝ }
-{
-    let w = 3 + 8 * n;
-    let mut i = 0;
-    while i < m {
-        let at = i * w;
-        if !rows::slots_ok(n, &r[at..at + w]) {
-            return false;
-        }
-        i += 1;
-    }
-    true
-}
-
-// Whether no id stands twice in a row.
-fn all_ids_once(n: usize, m: usize, r: &[u64]) -> bool
-    requires { ⌜ (n ≤ 20) × (length (now r) ≡ m * widthOf n) ⌝ }
-    ensures { λ r′. ⌜ r′ ≡ every m (λ i. idsOnce n (rowAt n (now (r .entry)) i)) ⌝ }
-{
-    let w = 3 + 8 * n;
-    let mut i = 0;
-    while i < m {
-        let at = i * w;
-        if !rows::ids_once(n, &r[at..at + w]) {
-            return false;
-        }
-        i += 1;
-    }
-    true
-}
 
 // The first row that has the id, or m.
 fn first_row_with(n: usize, m: usize, r: &[u64], id: u64) -> usize
@@ -125,16 +74,33 @@ fn row_like_first(n: usize, m: usize, r: &[u64], row: &[u64]) -> bool
     true
 }
 
-// Whether no id has two unequal distributions.
-fn all_agreeing(n: usize, m: usize, r: &[u64]) -> bool
+// Whether a row passes the test of that number: 4 its state and objective, 5 its slots, 6 its ids, 7 the distributions of its ids.
+fn passes(number: u64, n: usize, m: usize, r: &[u64], row: &[u64]) -> bool
+    requires { ⌜ (n ≤ 20) × (length (now r) ≡ m * widthOf n) × (length (now row) ≡ widthOf n) ⌝ }
+    ensures { λ r′. ⌜ r′ ≡ passesOf number n m (now (r .entry)) (now (row .entry)) ⌝ }
+{
+    if number == 4 {
+        return rows::row_ok(row);
+    }
+    if number == 5 {
+        return rows::slots_ok(n, row);
+    }
+    if number == 6 {
+        return rows::ids_once(n, row);
+    }
+    row_like_first(n, m, r, row)
+}
+
+// Whether every row does.
+fn all_pass(number: u64, n: usize, m: usize, r: &[u64]) -> bool
     requires { ⌜ (n ≤ 20) × (length (now r) ≡ m * widthOf n) ⌝ }
-    ensures { λ r′. ⌜ r′ ≡ every m (λ i. every m (λ j. rowsAgreeing n (rowAt n (now (r .entry)) i) (rowAt n (now (r .entry)) j))) ⌝ }
+    ensures { λ r′. ⌜ r′ ≡ every m (λ i. passesOf number n m (now (r .entry)) (rowAt n (now (r .entry)) i)) ⌝ }
 {
     let w = 3 + 8 * n;
     let mut i = 0;
     while i < m {
         let at = i * w;
-        if !row_like_first(n, m, r, &r[at..at + w]) {
+        if !passes(number, n, m, r, &r[at..at + w]) {
             return false;
         }
         i += 1;
@@ -147,16 +113,16 @@ fn recent_refusal(n: usize, m: usize, r: &[u64]) -> u64
     requires { ⌜ (n ≤ 20) × (length (now r) ≡ m * widthOf n) ⌝ }
     ensures { λ r′. ⌜ r′ ≡ firstOf (recentTests n m (now (r .entry))) ⌝ }
 {
-    if !rows_ok(n, m, r) {
+    if !all_pass(4, n, m, r) {
         return 4;
     }
-    if !all_slots_ok(n, m, r) {
+    if !all_pass(5, n, m, r) {
         return 5;
     }
-    if !all_ids_once(n, m, r) {
+    if !all_pass(6, n, m, r) {
         return 6;
     }
-    if !all_agreeing(n, m, r) {
+    if !all_pass(7, n, m, r) {
         return 7;
     }
     0

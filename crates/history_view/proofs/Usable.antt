@@ -12,13 +12,14 @@ use lib.Ieee.{Float, nan, binary64, le, ofBits}
 use lib.Ieee.Bits.{is-true}
 use lib.Ieee.Fits.{and-i, and-l, and-r, eq→eqb}
 use borrow.Author.Tests.{eqb-true, eqb-false}
+use Rattle.history_rows.proofs.First.{equal-of}
 use Rattle.arith.specs.Bounds.{abs, Within}
 use Rattle.arith.specs.Lists.{every, listOf}
 use Rattle.arith.proofs.Lists.{grown-length, grown-at, grown-padded-take, every-each, each-every, place-found, places-length, places-at}
 use Rattle.arith.proofs.Within as sizes
 use Rattle.distribution.specs.declared.Distribution.{Distribution}
 use Rattle.distribution.specs.declared.Read.{Read}
-use Rattle.distribution.specs.Shape.{power}
+use Rattle.distribution.specs.Shape.{power, continuousOf}
 use Rattle.distribution.specs.Taken.{takenOf, valueOf}
 use Rattle.distribution.proofs.Equals.{equal-trans}
 use Rattle.distribution.proofs.Facts.{parts, asked}
@@ -28,7 +29,7 @@ use Rattle.gp_model.specs.Statistics.{allWithin}
 use Rattle.dimensions.specs.declared.DimensionInfo.{DimensionInfo}
 use Rattle.param_mapping.specs.declared.Mapped.{Mapped}
 use Rattle.history.specs.declared.Training.{Training}
-use Rattle.dimensions.specs.Dimensions.{dimensionAt, continuousOf, columnsOf}
+use Rattle.dimensions.specs.Dimensions.{dimensionAt, columnsOf}
 use Rattle.param_mapping.specs.Mapping.{none, mappedOf, numberOf}
 use Rattle.history_rows.specs.Rows.{rowCount, recentOf, rowAt, objectiveOf, slotAt}
 use Rattle.slots.specs.Slot.{idOf, takenWord}
@@ -70,8 +71,7 @@ reads-trans Read.Malformed b c p q = absurd p
 
 -- two slots of one id
 agreed : (u v : List ℕ) → T (agreeing u v) → T (present u) → T (present v) → idOf u ≡ idOf v → T (readsEqual (slotRead u) (slotRead v))
-unfolding agreeing
-agreed u v t p q e = let i : T (eqb (idOf u) (idOf v)) = eq→eqb e in asked (sameId u v) (readsEqual (slotRead u) (slotRead v)) t (search and-i)
+agreed u v t p q e = let i : T (eqb (idOf u) (idOf v)) = eq→eqb e in equal-of u v t (search and-i)
 
 -- a row that covers a mapping has a slot of its id
 record Covered (n : ℕ) (row : List ℕ) (m : Mapped) : Type 0 where

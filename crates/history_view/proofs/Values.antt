@@ -11,17 +11,17 @@ use Rattle.distribution.specs.declared.Distribution.{Distribution}
 use Rattle.distribution.specs.declared.Read.{Read}
 use Rattle.distribution.specs.Equal.{equalOf}
 use Rattle.distribution_words.specs.RoundTrip.{Held}
-use Rattle.distribution.specs.Shape.{shapeOf}
+use Rattle.distribution.specs.Shape.{shapeOf, continuousOf}
 use Rattle.distribution.specs.Taken.{takenOf, valueOf}
 use Rattle.distribution.proofs.Equals.{equal-taken}
 use Rattle.distribution.proofs.Facts.{parts}
 use Rattle.encoding.specs.declared.InternalBounds.{InternalBounds}
 use Rattle.encoding.specs.Bounds.{endsOf, boundsOf}
-use Rattle.encoding.proofs.EndLaws.{FloatsFit, continuous, bounds}
+use Rattle.encoding.proofs.EndLaws.{FloatsFit, bounds}
 use Rattle.common.proofs.Facts.{ValueFits, encode-accepted, apart, largest, normalised}
 use Rattle.scaling.specs.Scaling.{toNormalizedOf}
 use Rattle.dimensions.specs.declared.DimensionInfo.{DimensionInfo}
-use Rattle.dimensions.specs.Dimensions.{sameBits, boundsAre, continuousOf, dimensionOk}
+use Rattle.dimensions.specs.Dimensions.{sameBits, boundsAre, dimensionOk}
 use Rattle.slots.specs.Slot.{takenWord}
 use Rattle.slots.specs.Slot.{slotRead}
 use Rattle.history.specs.Training.{entryOf}
@@ -37,7 +37,7 @@ floats-fit (Distribution.Float d) h = record { low = h .0; high = h .1 }
 floats-fit (Distribution.Int d) h = tt
 floats-fit (Distribution.Categorical d) h = tt
 
-pub continuous-is : (d : Distribution) → T (continuousOf d) → T (continuous d)
+pub continuous-is : (d : Distribution) → T (continuousOf d) → T (continuousOf d)
 continuous-is (Distribution.Float d) c = c
 continuous-is (Distribution.Int d) c = c
 continuous-is (Distribution.Categorical d) c = c
@@ -51,10 +51,10 @@ bounds-shape d lo hi t = go (shapeOf d) t
     go true t = tt
     go false t = t
 
--- a dimension that is a column of the model: continuous, with its distribution's bounds
+-- a dimension that is a column of the model: continuousOf, with its distribution's bounds
 pub record Column (d : DimensionInfo) : Type 0 where
   pub ok : T (dimensionOk d)
-  pub continuous : T (continuousOf (d .distribution))
+  pub continuousOf : T (continuousOf (d .distribution))
   pub held : Held (d .distribution)
   pub lo-fits : T (fits binary64 (d .lo))
   pub hi-fits : T (fits binary64 (d .hi))
@@ -66,7 +66,7 @@ shape d r = bounds-shape (d .distribution) (d .lo) (d .hi) (r .ok)
 pub ends : (d : DimensionInfo) → Column d → boundsOf (d .distribution) ≡ InternalBounds.Ends (d .lo) (d .hi)
 unfolding dimensionOk
 ends d r =
-    let b = bounds (d .distribution) (continuous-is (d .distribution) (r .continuous)) (floats-fit (d .distribution) (r .held)) (shape d r) in
+    let b = bounds (d .distribution) (continuous-is (d .distribution) (r .continuousOf)) (floats-fit (d .distribution) (r .held)) (shape d r) in
     let t : T (sameBits (b .lo) (d .lo) && sameBits (b .hi) (d .hi)) = subst (λ (i : InternalBounds). T (boundsAre i (d .lo) (d .hi))) (b .is) (r .ok) in
     let p = same-bits (b .lo) (d .lo) (b .rules .low-fits) (r .lo-fits) (search parts) in
     let q = same-bits (b .hi) (d .hi) (b .rules .high-fits) (r .hi-fits) (search parts) in
@@ -100,5 +100,5 @@ entry-within d r v e p t q =
     let w = valueOf e (takenWord v) in
     let k = subst T (sym (equal-taken (d .distribution) e q w)) t in
     let f = value-fits e (takenWord v) in
-    let x = encode-accepted (d .distribution) w (continuous-is (d .distribution) (r .continuous)) f (shape d r) k in
+    let x = encode-accepted (d .distribution) w (continuous-is (d .distribution) (r .continuousOf)) f (shape d r) k in
     rw (p, x .is) (scaled-within (x .value) (d .lo) (d .hi) (normalised (d .distribution) w (floats-fit (d .distribution) (r .held)) f (shape d r) k (x .value) (d .lo) (d .hi) (x .is) (ends d r)))

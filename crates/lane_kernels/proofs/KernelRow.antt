@@ -2,7 +2,6 @@
 use mathlib.Core.Path.{_≡_, refl, sym, ap, _∙_}
 use mathlib.Core.List.{List}
 use Prim.Native.Nat.{ℕ, zero, suc, _+_, _*_, _≤_, _<_}
-use native.Mathlib.Nat.{mul-le-mul-right, suc-mul}
 use native.Mathlib.Omega.{arith}
 use borrow.Author.Tests.{eq-eqb}
 use lib.IntN.{pos}
@@ -22,10 +21,6 @@ pub sum-same : (n : ℕ) (s t : ℕ → Float) → ((i : ℕ) → i < n → s i 
 unfolding sumOver
 sum-same zero s t h = refl
 sum-same (suc n) s t h = rw (sum-same n s t (λ i l. h i (omega arith)), h n (omega arith))
-
--- a row lies in its table
-pub row-end : (i n d : ℕ) → i < n → i * d + d ≤ n * d
-row-end i n d h = rw (suc-mul i d) at (mul-le-mul-right d h)
 
 -- an element of a row
 pub row-read : (x : List Float) (d i j : ℕ) → j < d → getD (take d (drop (i * d) x)) j nan ≡ getD x (i * d + j) nan

@@ -2,12 +2,10 @@
 use mathlib.Core.Path.{_≡_, sym, ap, _∙_}
 use mathlib.Core.List.{List, []}
 use Prim.Native.Nat.{ℕ, suc, _+_, _-_, _≤_, _<_}
-use native.Mathlib.Omega.{arith}
-use lib.ListN.{length, getD, set, replicate, getD-replicate}
-use lib.Seq.{getD-append-add}
+use lib.ListN.{length, getD, set}
 use lib.Ieee.{Float, nan, binary64, ofBits}
 use Rattle.arith.specs.Lists.{listOf, padded}
-use Rattle.arith.proofs.Lists.{grown-at, grown-length, grown-read, grown-filled-set, filled-at, filled-length, list-same, eight-filled}
+use Rattle.arith.proofs.Lists.{grown-at, grown-length, grown-read, grown-filled-set, filled-at, filled-length, list-same, eight-filled, filled-past}
 use Rattle.lanes.specs.Rows.{cell, eightOf, lanesOf, rowsOf, zeroRow}
 
 -- a row that is made whole
@@ -36,9 +34,7 @@ row-set f n r h e = rw e (grown-filled-set zeroRow 100 (λ xs i. f i) n h)
 
 -- past them stand zeros
 pub row-past : (xs : List (List Float)) (i : ℕ) → length xs ≤ i → i < 100 → getD (rowsOf xs) i [] ≡ zeroRow
-row-past xs i h g =
-    let e : length xs + (i - length xs) ≡ i = omega arith in
-    ap (λ (k : ℕ). getD (rowsOf xs) k []) (sym e) ∙ getD-append-add xs (replicate (100 - length xs) zeroRow) (i - length xs) [] ∙ getD-replicate (100 - length xs) (i - length xs) zeroRow [] (omega arith)
+row-past xs i h g = filled-past zeroRow 100 xs i [] h g
 
 pub rows-length : (f : ℕ → List Float) (n : ℕ) → n ≤ 100 → length (rowsOf (listOf f n)) ≡ 100
 rows-length f n h = filled-length zeroRow 100 (listOf f n) (rw (grown-length (λ xs i. f i) n) h)

@@ -10,6 +10,7 @@ use lib.ListN.{length, getD, take, replicate, length-replicate, List·getD-appen
 use lib.Seq.{getD-append-seam}
 use lib.Ieee.{Float, nan, binary64, le, lt, ofBits}
 use lib.Ieee.Bits.{is-true}
+use Rattle.distribution.specs.Shape.{continuousOf}
 use Rattle.arith.specs.Lists.{filled, padded}
 use Rattle.arith.proofs.Lists.{filled-at, padded-at, grown-length}
 use Rattle.rng_util.specs.Draws.{unitOf}
@@ -24,7 +25,7 @@ use Rattle.search.proofs.Earliest.{search-earliest}
 use Rattle.dimensions.specs.declared.DimensionInfo.{DimensionInfo}
 use Rattle.history.specs.declared.Training.{Training}
 use Rattle.history_view.specs.declared.View.{View}
-use Rattle.dimensions.specs.Dimensions.{dimensionAt, continuousOf, columnsOf}
+use Rattle.dimensions.specs.Dimensions.{dimensionAt, columnsOf}
 use Rattle.history_view.specs.View.{viewOf}
 use Rattle.settings.specs.declared.Settings.{Settings}
 use Rattle.proposal.specs.declared.Point.{Point}

@@ -25,7 +25,7 @@ use Rattle.rng_util.proofs.Unit as unit
 use Rattle.distribution.specs.declared.Distribution.{Distribution}
 use Rattle.distribution.specs.declared.ParamValue.{ParamValue}
 use Rattle.distribution_words.specs.RoundTrip.{Held}
-use Rattle.distribution.specs.Shape.{shapeOf}
+use Rattle.distribution.specs.Shape.{shapeOf, continuousOf}
 use Rattle.distribution.specs.Taken.{takenOf}
 use Rattle.distribution.proofs.Facts.{parts}
 use Rattle.common.specs.declared.RandomDraw.{RandomDraw}
@@ -44,7 +44,7 @@ use Rattle.search.proofs.Earliest.{search-earliest}
 use Rattle.dimensions.specs.declared.DimensionInfo.{DimensionInfo}
 use Rattle.history.specs.declared.Training.{Training}
 use Rattle.history_view.specs.declared.View.{View}
-use Rattle.dimensions.specs.Dimensions.{dimensionAt, continuousOf, dimensionOk, columnsOf}
+use Rattle.dimensions.specs.Dimensions.{dimensionAt, dimensionOk, columnsOf}
 use Rattle.history_view.proofs.Values.{Column, floats-fit, bounds-shape, shape, ends}
 use Rattle.settings.specs.declared.Settings.{Settings}
 use Rattle.proposal.specs.declared.Point.{Point}

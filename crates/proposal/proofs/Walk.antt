@@ -7,13 +7,14 @@ use native.Mathlib.Numerals.{add-one}
 use native.Mathlib.Omega.{arith}
 use lib.ListN.{length, getD, set, length-append}
 use lib.Ieee.{Float, nan}
+use Rattle.distribution.specs.Shape.{continuousOf}
 use Rattle.arith.specs.Lists.{filled}
 use Rattle.arith.proofs.Lists.{filled-set-at, places-next}
 use Rattle.rng_util.specs.Generator.{movedOf}
 use Rattle.common.specs.Random.{sampleRandomOf}
 use Rattle.common.proofs.Moves.{Moved, random-moves}
 use Rattle.dimensions.specs.declared.DimensionInfo.{DimensionInfo}
-use Rattle.dimensions.specs.Dimensions.{dimensionAt, continuousOf, columnsOf}
+use Rattle.dimensions.specs.Dimensions.{dimensionAt, columnsOf}
 use Rattle.dimensions.specs.Empty.{emptyStored}
 use Rattle.proposal.specs.Values.{decodeOf, stepOf, walkOf}
 

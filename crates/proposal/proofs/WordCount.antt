@@ -13,7 +13,7 @@ use Rattle.arith.specs.Lists.{padded, placesOf}
 use Rattle.rng_util.proofs.Nonzero.{Nonzero, moved-nonzero}
 use Rattle.distribution.specs.declared.Distribution.{Distribution}
 use Rattle.distribution_words.specs.RoundTrip.{Held}
-use Rattle.distribution.specs.Shape.{shapeOf}
+use Rattle.distribution.specs.Shape.{shapeOf, continuousOf}
 use Rattle.common.specs.declared.RandomDraw.{RandomDraw}
 use Rattle.common.specs.Random.{sampleRandomOf}
 use Rattle.encoding.proofs.EndLaws.{FloatsFit}
@@ -21,7 +21,7 @@ use Rattle.common.proofs.Facts.{random-accepted}
 use Rattle.dimensions.specs.declared.DimensionInfo.{DimensionInfo}
 use Rattle.history.specs.declared.Training.{Training}
 use Rattle.history_view.specs.declared.View.{View}
-use Rattle.dimensions.specs.Dimensions.{dimensionAt, continuousOf, dimensionOk, dimensionsOk, columnsOf}
+use Rattle.dimensions.specs.Dimensions.{dimensionAt, dimensionOk, dimensionsOk, columnsOf}
 use Rattle.param_mapping.specs.Mapping.{numberOf}
 use Rattle.history.specs.Training.{recentTraining}
 use Rattle.history_view.specs.View.{viewOf}

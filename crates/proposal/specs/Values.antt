@@ -4,6 +4,7 @@ use mathlib.Core.Bool.{Bool, _&&_, cond}
 use mathlib.Core.List.{List, [], _∷_, _++_}
 use lib.ListN.{length, getD}
 use lib.Ieee.{Float, nan}
+use Rattle.distribution.specs.Shape.{continuousOf}
 use Rattle.arith.specs.Lists.{filled}
 use Rattle.distribution.specs.declared.ParamValue.{ParamValue}
 use Rattle.common.specs.declared.RandomDraw.{RandomDraw}
@@ -11,7 +12,7 @@ use Rattle.common.specs.Decode.{fromInternalOf}
 use Rattle.common.specs.Random.{sampleRandomOf}
 use Rattle.scaling.specs.Scaling.{fromNormalizedOf}
 use Rattle.dimensions.specs.declared.DimensionInfo.{DimensionInfo}
-use Rattle.dimensions.specs.Dimensions.{dimensionAt, continuousOf, columnsOf}
+use Rattle.dimensions.specs.Dimensions.{dimensionAt, columnsOf}
 use Rattle.dimensions.specs.declared.Stored.{Stored}
 use Rattle.dimensions.specs.Empty.{emptyStored}
 use Rattle.proposal.specs.declared.Values.{Values}

@@ -2,7 +2,7 @@
 ghost use mathlib.Core.Path.{_≡_};
 ghost use mathlib.Core.Bool.{_&&_, cond};
 ghost use Prim.Native.Nat.{_≤_};
-ghost use Rattle.dimensions.specs.Dimensions.{continuousOf};
+ghost use Rattle.distribution.specs.Shape.{continuousOf};
 ghost use Rattle.proposal.specs.Values.{decodeOf, stepOf, walkOf, valuesIn};
 use crate::Values;
 use common::RandomDraw;

@@ -11,6 +11,7 @@ use lib.Ieee.{Float, nan}
 use lib.Ieee.Fits.{and-l, and-r}
 use lib.Ieee.Bits.{is-true, is-false}
 use borrow.Author.Tests.{ltb-true, eqb-true, eqb-false, eq-eqb}
+use Rattle.distribution.specs.Shape.{continuousOf}
 use Rattle.arith.specs.Lists.{every}
 use Rattle.arith.proofs.Lists.{place-is, place-some, each-every}
 use Rattle.arith.proofs.Tests.{taken, untaken, by-test}
@@ -19,7 +20,7 @@ use Rattle.distribution.specs.declared.Read.{Read}
 use Rattle.distribution_words.specs.Words.{readOf}
 use Rattle.distribution.proofs.Facts.{parts}
 use Rattle.dimensions.specs.declared.DimensionInfo.{DimensionInfo}
-use Rattle.dimensions.specs.Dimensions.{dimensionAt, continuousOf, columnsOf}
+use Rattle.dimensions.specs.Dimensions.{dimensionAt, columnsOf}
 use Rattle.history_rows.specs.Tests.{refusalOf}
 use Rattle.history_view.specs.View.{viewOf}
 use Rattle.proposal.specs.declared.Proposal.{Proposal}

@@ -6,6 +6,7 @@ use mathlib.Core.List.{List, []}
 use lib.Dec.{T, eqb, leb, ltb}
 use lib.ListN.{length, getD, replicate}
 use lib.Ieee.{Float, nan, binary64, lt, le, ofBits}
+use Rattle.distribution.specs.Shape.{continuousOf}
 use Rattle.arith.specs.Lists.{listOf}
 use Rattle.rng_util.specs.Draws.{unitOf}
 use Rattle.rng_util.specs.Generator.{streamOf}
@@ -13,7 +14,7 @@ use Rattle.gp_model.specs.declared.Fit.{Fit}
 use Rattle.gp_model.specs.declared.Model.{Model}
 use Rattle.search.specs.Search.{scoreOf}
 use Rattle.history_view.specs.declared.View.{View}
-use Rattle.dimensions.specs.Dimensions.{dimensionAt, continuousOf, columnsOf}
+use Rattle.dimensions.specs.Dimensions.{dimensionAt, columnsOf}
 use Rattle.history_view.specs.View.{viewOf}
 use Rattle.proposal.specs.Points.{fitFor}
 use Rattle.proposal.specs.Values.{decodeOf}

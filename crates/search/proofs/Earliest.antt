@@ -13,7 +13,7 @@ use lib.Ieee.{Float, nan, inf, fin, binary64, lt, le, ofBits}
 use Rattle.acquisition.proofs.Accepted.{improvement-accepts}
 use Rattle.arith.specs.Bounds.{real, Sign}
 use Rattle.arith.specs.Lists.{listOf, padded}
-use Rattle.arith.proofs.Lists.{grown-at, list-same}
+use Rattle.arith.proofs.Lists.{grown-at, list-same, row-end}
 use Rattle.arith.proofs.Order as order
 use Rattle.arith.proofs.Scan.{best, bestOf, bestAt, Best}
 use Rattle.rng_util.specs.Draws.{unitOf}
@@ -25,7 +25,6 @@ use Rattle.search.specs.Earliest.{drawnOf, Earliest}
 use Rattle.search.specs.Predict.{posteriorAt}
 use Rattle.search.specs.Search.{pointOf, scoreOf, startOf, candidateOf, advanceOf, foundOf, searchDomain, optimizeAcquisitionOf}
 use Rattle.search.proofs.Domain.{search-columns}
-use Rattle.lane_kernels.proofs.KernelRow.{row-end}
 
 -- ---- scores
 pub score-real : (m : Model) (p : List Float) → real (scoreOf m p)

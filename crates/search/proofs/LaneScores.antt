@@ -7,8 +7,8 @@ use native.Mathlib.Nat.{eq-zero-or-pos}
 use native.Mathlib.Omega.{arith}
 use borrow.Author.Tests.{le-leb, eq-eqb}
 use lib.IntN.{pos}
-use lib.ListN.{length, getD, take, replicate, getD-replicate}
-use lib.Seq.{ext-getD, getD-take, getD-append-add, length-take-le}
+use lib.ListN.{length, getD, take}
+use lib.Seq.{ext-getD, getD-take, length-take-le}
 use lib.Ieee.{Float, nan, binary64, sub, mul, ofBits, ofInt}
 use Rattle.acquisition.specs.Improvement.{expectedImprovementOf}
 use Rattle.arith.specs.Choice.{positivePart}
@@ -16,7 +16,7 @@ use Rattle.arith.specs.Lists.{padded}
 use Rattle.arith.specs.Outcome.{valueOf}
 use Rattle.root.specs.Sqrt.{sqrtOf}
 use Rattle.arith.specs.Sums.{sumOver, products}
-use Rattle.arith.proofs.Lists.{grown-at, grown-length, padded-at, padded-length}
+use Rattle.arith.proofs.Lists.{grown-at, grown-length, padded-at, padded-length, filled-past}
 use Rattle.factor.specs.Solve.{solveOf}
 use Rattle.lane_kernels.specs.Kernels.{kernelRowsOf, kernelLanesOf}
 use Rattle.lanes.specs.Rows.{cell, eightOf, laneOf, lanesOf, rowsOf}
@@ -27,12 +27,6 @@ use Rattle.lanes.proofs.Rows.{eight-at, eight-same, lanes-at, row-at, row-past}
 use Rattle.gp_model.specs.Kernels.{rowOf, similarityOf}
 use Rattle.search.specs.Predict.{kernelVectorOf, posteriorMeanOf, posteriorStdOf}
 use Rattle.search.specs.Search.{partsOf, scoreOf}
-
--- past the list
-padded-past : (places : ℕ) (xs : List Float) (i : ℕ) → length xs ≤ i → i < places → getD (padded places xs) i nan ≡ ofBits binary64 0
-padded-past places xs i h g =
-    let e : length xs + (i - length xs) ≡ i = omega arith in
-    ap (λ (k : ℕ). getD (padded places xs) k nan) (sym e) ∙ getD-append-add xs (replicate (places - length xs) (ofBits binary64 0)) (i - length xs) nan ∙ getD-replicate (places - length xs) (i - length xs) (ofBits binary64 0) nan (omega arith)
 
 -- a dot product by its terms
 products-take : (xs ys : List Float) (n : ℕ) → length xs ≡ n → products xs (take n ys) ≡ sumOver n (λ i. mul binary64 (getD xs i nan) (getD ys i nan))
@@ -70,7 +64,7 @@ module _ (x ls chol alpha : List Float) (best : Float) (n d : ℕ) (c : List (Li
       (λ i h. let t : i < 100 = omega arith in
       grown-at (λ xs i. cell beside i p) 100 i t
       ∙ elim (eq-zero-or-pos (n - i)) [
-        | inl z ↦ (let l : n ≤ i = omega arith in kernel-past i p l t g ∙ sym (padded-past 100 (alone p) i (rw (alone-length p) l) t))
+        | inl z ↦ (let l : n ≤ i = omega arith in kernel-past i p l t g ∙ sym (filled-past (ofBits binary64 0) 100 (alone p) i nan (rw (alone-length p) l) t))
         | inr z ↦ (let l : i < n = omega arith in kernel-cell i p l g ∙ sym (padded-at 100 (alone p) i (rw (alone-length p) l)))
       ])
 

@@ -6,13 +6,12 @@ use native.Mathlib.Numerals.{add-one}
 use native.Mathlib.Omega.{arith}
 use lib.ListN.{length}
 use Rattle.arith.specs.Lists.{placesOf}
-use Rattle.arith.proofs.Lists.{places-length}
+use Rattle.arith.proofs.Lists.{places-length, row-end}
 use Rattle.history.specs.Places.{placesIn, withPlace}
 use Rattle.history_rows.specs.Rows.{widthOf, rowAt}
 use Rattle.history.specs.Training.{trainsOf}
 use Rattle.history_rows.proofs.Parts.{part, lent-length}
 use Rattle.history.proofs.PlaceList.{place-more}
-use Rattle.history_rows.proofs.Recent.{row-inside}
 use borrow.Author.Needs.{needs}
 use Rattle.history.proofs.building.kept.Statement.{statement}
 use Rattle.history.proofs.building.kept.Tie as tie
@@ -37,21 +36,21 @@ mul-start : tie.Need-mul-start Inv-loop μ-loop
 mul-start c =
     let l = c .before in
     let a = l .before .before .before .args in
-    let s = row-inside (l .loop .i) (a .m) (widthOf (a .n)) (c .loop-test .taken) in
+    let s = row-end (l .loop .i) (a .m) (widthOf (a .n)) (c .loop-test .taken) in
     omega arith
 
 add-trains : tie.Need-add-trains Inv-loop μ-loop
 add-trains c =
     let l = c .before .before in
     let a = l .before .before .before .args in
-    let s = row-inside (l .loop .i) (a .m) (widthOf (a .n)) (c .before .loop-test .taken) in
+    let s = row-end (l .loop .i) (a .m) (widthOf (a .n)) (c .before .loop-test .taken) in
     omega arith
 
 mul-trains : tie.Need-mul-trains Inv-loop μ-loop
 mul-trains c =
     let l = c .before .before in
     let a = l .before .before .before .args in
-    let s = row-inside (l .loop .i) (a .m) (widthOf (a .n)) (c .before .loop-test .taken) in
+    let s = row-end (l .loop .i) (a .m) (widthOf (a .n)) (c .before .loop-test .taken) in
     omega arith
 
 sub-trains : tie.Need-sub-trains Inv-loop μ-loop
@@ -64,7 +63,7 @@ part-trains-end : tie.Need-part-trains-end Inv-loop μ-loop
 part-trains-end c =
     let l = c .before .before in
     let a = l .before .before .before .args in
-    let s = row-inside (l .loop .i) (a .m) (widthOf (a .n)) (c .before .loop-test .taken) in
+    let s = row-end (l .loop .i) (a .m) (widthOf (a .n)) (c .before .loop-test .taken) in
     omega arith
 
 trains-requires : tie.Need-trains-requires Inv-loop μ-loop
@@ -72,7 +71,7 @@ trains-requires c κs =
     let l = c .before .before .before in
     let s = l .before .before .before in
     let w = widthOf (s .args .n) in
-    let f = row-inside (l .loop .i) (s .args .m) w (c .before .before .loop-test .taken) in
+    let f = row-end (l .loop .i) (s .args .m) w (c .before .before .loop-test .taken) in
     (search needs, lent-length w (s .args .r .now) (l .loop .i * w) (omega arith), λ k h. s .pre .3 k h)
 
 with-place-requires : tie.Need-with-place-requires Inv-loop μ-loop

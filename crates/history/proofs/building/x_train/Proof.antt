@@ -7,12 +7,11 @@ use native.Mathlib.Omega.{arith}
 use lib.ListN.{length, getD}
 use lib.Ieee.{ofBits}
 use Rattle.arith.specs.Lists.{grown, listOf, padded}
-use Rattle.arith.proofs.Lists.{grown-set}
+use Rattle.arith.proofs.Lists.{grown-set, row-end}
 use Rattle.history_rows.specs.Rows.{widthOf, rowAt}
 use Rattle.history.specs.Training.{columnOf, xOf}
 use Rattle.history.proofs.KeptRows.{asked}
 use Rattle.history_rows.proofs.Parts.{part, lent-length}
-use Rattle.history_rows.proofs.Recent.{row-inside}
 use borrow.Author.Needs.{needs}
 use Rattle.history.proofs.building.x_train.Statement.{statement}
 use Rattle.history.proofs.building.x_train.Tie as tie

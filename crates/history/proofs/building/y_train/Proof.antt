@@ -7,10 +7,9 @@ use native.Mathlib.Omega.{arith}
 use lib.ListN.{length, getD}
 use lib.Ieee.{binary64, ofBits}
 use Rattle.arith.specs.Lists.{grown, listOf, padded}
-use Rattle.arith.proofs.Lists.{grown-set}
+use Rattle.arith.proofs.Lists.{grown-set, row-end}
 use Rattle.history_rows.specs.Rows.{widthOf, rowAt, objectiveOf}
 use Rattle.history.specs.Training.{yOf}
-use Rattle.history_rows.proofs.Recent.{row-inside}
 use borrow.Author.Needs.{needs}
 use Rattle.history.proofs.building.y_train.Statement.{statement}
 use Rattle.history.proofs.building.y_train.Tie as tie
@@ -41,28 +40,28 @@ mul-start-2 : tie.Need-mul-start-2 Inv-loop μ-loop
 mul-start-2 c =
     let l = c .before .before in
     let s = l .before .before .before in
-    let f = row-inside (getD (s .args .kept .now) (l .loop .c) 0) (s .args .m) (widthOf (s .args .n)) (s .pre .3 (l .loop .c) (c .before .loop-test .taken)) in
+    let f = row-end (getD (s .args .kept .now) (l .loop .c) 0) (s .args .m) (widthOf (s .args .n)) (s .pre .3 (l .loop .c) (c .before .loop-test .taken)) in
     omega arith
 
 add-float-of-word : tie.Need-add-float-of-word Inv-loop μ-loop
 add-float-of-word c =
     let l = c .before .before in
     let s = l .before .before .before in
-    let f = row-inside (getD (s .args .kept .now) (l .loop .c) 0) (s .args .m) (widthOf (s .args .n)) (s .pre .3 (l .loop .c) (c .before .loop-test .taken)) in
+    let f = row-end (getD (s .args .kept .now) (l .loop .c) 0) (s .args .m) (widthOf (s .args .n)) (s .pre .3 (l .loop .c) (c .before .loop-test .taken)) in
     omega arith
 
 mul-float-of-word : tie.Need-mul-float-of-word Inv-loop μ-loop
 mul-float-of-word c =
     let l = c .before .before in
     let s = l .before .before .before in
-    let f = row-inside (getD (s .args .kept .now) (l .loop .c) 0) (s .args .m) (widthOf (s .args .n)) (s .pre .3 (l .loop .c) (c .before .loop-test .taken)) in
+    let f = row-end (getD (s .args .kept .now) (l .loop .c) 0) (s .args .m) (widthOf (s .args .n)) (s .pre .3 (l .loop .c) (c .before .loop-test .taken)) in
     omega arith
 
 shared-slice-read-float-of-word : tie.Need-shared-slice-read-float-of-word Inv-loop μ-loop
 shared-slice-read-float-of-word c =
     let l = c .before .before .before in
     let s = l .before .before .before in
-    let f = row-inside (getD (s .args .kept .now) (l .loop .c) 0) (s .args .m) (widthOf (s .args .n)) (s .pre .3 (l .loop .c) (c .before .before .loop-test .taken)) in
+    let f = row-end (getD (s .args .kept .now) (l .loop .c) 0) (s .args .m) (widthOf (s .args .n)) (s .pre .3 (l .loop .c) (c .before .before .loop-test .taken)) in
     omega arith
 
 float-of-word-requires : tie.Need-float-of-word-requires Inv-loop μ-loop

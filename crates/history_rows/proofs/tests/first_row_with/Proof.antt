@@ -7,13 +7,12 @@ use native.Mathlib.Omega.{arith}
 use borrow.Author.Tests.{lt-ltb, le-ltb}
 use lib.Dec.{ltb}
 use Rattle.arith.specs.Lists.{every}
-use Rattle.arith.proofs.Lists.{place-is, place-none}
+use Rattle.arith.proofs.Lists.{place-is, place-none, row-end}
 use Rattle.history_rows.proofs.Parts.{part, lent-length}
 use lib.ListN.{length, getD}
 use Rattle.history_rows.specs.First.{firstRowWith}
 use Rattle.history_rows.specs.Rows.{widthOf, rowAt}
 use Rattle.history_rows.specs.Slots.{slotWith}
-use Rattle.history_rows.proofs.Recent.{row-inside}
 use borrow.Author.Needs.{needs}
 use Rattle.history_rows.proofs.tests.first_row_with.Statement.{statement}
 use Rattle.history_rows.proofs.tests.first_row_with.Tie as tie
@@ -35,13 +34,13 @@ unfolding every
 loop-holds c = (omega arith, refl)
 
 mul-at : tie.Need-mul-at Inv-loop μ-loop
-mul-at c = let a = c .before .before .before .args in let s = row-inside (c .before .loop .i) (a .m) (widthOf (a .n)) (c .loop-test .taken) in omega arith
+mul-at c = let a = c .before .before .before .args in let s = row-end (c .before .loop .i) (a .m) (widthOf (a .n)) (c .loop-test .taken) in omega arith
 
 add-slot-with : tie.Need-add-slot-with Inv-loop μ-loop
-add-slot-with c = let a = c .before .before .before .args in let s = row-inside (c .before .loop .i) (a .m) (widthOf (a .n)) (c .loop-test .taken) in omega arith
+add-slot-with c = let a = c .before .before .before .args in let s = row-end (c .before .loop .i) (a .m) (widthOf (a .n)) (c .loop-test .taken) in omega arith
 
 mul-slot-with : tie.Need-mul-slot-with Inv-loop μ-loop
-mul-slot-with c = let a = c .before .before .before .args in let s = row-inside (c .before .loop .i) (a .m) (widthOf (a .n)) (c .loop-test .taken) in omega arith
+mul-slot-with c = let a = c .before .before .before .args in let s = row-end (c .before .loop .i) (a .m) (widthOf (a .n)) (c .loop-test .taken) in omega arith
 
 sub-slot-with : tie.Need-sub-slot-with Inv-loop μ-loop
 sub-slot-with c = search needs
@@ -50,10 +49,10 @@ part-slot-with-start : tie.Need-part-slot-with-start Inv-loop μ-loop
 part-slot-with-start c = search needs
 
 part-slot-with-end : tie.Need-part-slot-with-end Inv-loop μ-loop
-part-slot-with-end c = let a = c .before .before .before .args in let s = row-inside (c .before .loop .i) (a .m) (widthOf (a .n)) (c .loop-test .taken) in omega arith
+part-slot-with-end c = let a = c .before .before .before .args in let s = row-end (c .before .loop .i) (a .m) (widthOf (a .n)) (c .loop-test .taken) in omega arith
 
 slot-with-requires : tie.Need-slot-with-requires Inv-loop μ-loop
-slot-with-requires c κs = let a = c .before .before .before .before .args in let s = row-inside (c .before .before .loop .i) (a .m) (widthOf (a .n)) (c .before .loop-test .taken) in (search needs, lent-length (widthOf (a .n)) (a .r .now) (c .before .before .loop .i * widthOf (a .n)) (omega arith))
+slot-with-requires c κs = let a = c .before .before .before .before .args in let s = row-end (c .before .before .loop .i) (a .m) (widthOf (a .n)) (c .before .loop-test .taken) in (search needs, lent-length (widthOf (a .n)) (a .r .now) (c .before .before .loop .i * widthOf (a .n)) (omega arith))
 
 returns : tie.Need-returns Inv-loop μ-loop
 unfolding firstRowWith

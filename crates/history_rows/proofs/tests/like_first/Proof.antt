@@ -1,10 +1,10 @@
 -- `history_rows::tests::like_first` meets its contract. Assumes nothing.
 use lib.ListN.{getD}
 use borrow.Author.Tests.{not-false}
+use Rattle.arith.proofs.Lists.{row-end}
 use Rattle.history_rows.specs.Rows.{widthOf, rowAt}
 use Rattle.history_rows.specs.Slots.{slotWith}
 use Rattle.history_rows.proofs.First.{first-place, none-first}
-use Rattle.history_rows.proofs.Recent.{row-inside}
 use Prim.Native.Nat.{ℕ, _*_, _≤_, _<_}
 use mathlib.Core.Path.{_≡_, sym, subst}
 use native.Mathlib.Omega.{arith}
@@ -42,13 +42,13 @@ add-w : tie.Need-add-w
 add-w c = search needs
 
 mul-at : tie.Need-mul-at
-mul-at c = let a = c .before .before .before .before .before .before .before .args in let s = row-inside (c .before .first-row-with .result) (a .m) (widthOf (a .n)) (c .if2 .left) in omega arith
+mul-at c = let a = c .before .before .before .before .before .before .before .args in let s = row-end (c .before .first-row-with .result) (a .m) (widthOf (a .n)) (c .if2 .left) in omega arith
 
 add-read-with : tie.Need-add-read-with
-add-read-with c = let a = c .before .before .before .before .before .before .before .args in let s = row-inside (c .before .first-row-with .result) (a .m) (widthOf (a .n)) (c .if2 .left) in omega arith
+add-read-with c = let a = c .before .before .before .before .before .before .before .args in let s = row-end (c .before .first-row-with .result) (a .m) (widthOf (a .n)) (c .if2 .left) in omega arith
 
 mul-read-with : tie.Need-mul-read-with
-mul-read-with c = let a = c .before .before .before .before .before .before .before .args in let s = row-inside (c .before .first-row-with .result) (a .m) (widthOf (a .n)) (c .if2 .left) in omega arith
+mul-read-with c = let a = c .before .before .before .before .before .before .before .args in let s = row-end (c .before .first-row-with .result) (a .m) (widthOf (a .n)) (c .if2 .left) in omega arith
 
 sub-read-with : tie.Need-sub-read-with
 sub-read-with c = search needs
@@ -57,7 +57,7 @@ part-read-with-start : tie.Need-part-read-with-start
 part-read-with-start c = search needs
 
 part-read-with-end : tie.Need-part-read-with-end
-part-read-with-end c = let a = c .before .before .before .before .before .before .before .args in let s = row-inside (c .before .first-row-with .result) (a .m) (widthOf (a .n)) (c .if2 .left) in omega arith
+part-read-with-end c = let a = c .before .before .before .before .before .before .before .args in let s = row-end (c .before .first-row-with .result) (a .m) (widthOf (a .n)) (c .if2 .left) in omega arith
 
 there : (c : tie.After-read-with-arg) → let a = c .before .before .before .before .before .before .before .before .args in
     slotWith (a .n) (rowAt (a .n) (a .r .now) (c .before .before .first-row-with .result)) (getD (a .slot .now) 0 0) < a .n
@@ -72,7 +72,7 @@ read-with-requires c κs =
     let a = c .before .before .before .before .before .before .before .before in
     let i = c .before .before .first-row-with .result in
     let w = widthOf (a .args .n) in
-    let s = row-inside i (a .args .m) w (c .before .if2 .left) in
+    let s = row-end i (a .args .m) w (c .before .if2 .left) in
     (search needs, lent-length w (a .args .r .now) (i * w) (omega arith), rw (part w (a .args .r .now) (i * w)) (there c))
 
 read-requires : tie.Need-read-requires

@@ -4,11 +4,12 @@ use mathlib.Core.Path.{_≡_, refl}
 use native.Mathlib.Numerals.{add-one}
 use native.Mathlib.Omega.{arith}
 use lib.Ieee.{ofBits}
+use Rattle.arith.proofs.Lists.{row-end}
 use Rattle.arith.specs.Lists.{grown}
 use Rattle.lanes.specs.Rows.{rowsOf}
 use Rattle.lane_kernels.specs.Kernels.{kernelRowsOf}
 use Rattle.lanes.proofs.Rows.{row-set}
-use Rattle.lane_kernels.proofs.KernelRow.{row-end, kernel-row}
+use Rattle.lane_kernels.proofs.KernelRow.{kernel-row}
 use borrow.Author.Needs.{needs}
 use Rattle.lane_kernels.proofs.kernels.kernel_rows.Statement.{statement}
 use Rattle.lane_kernels.proofs.kernels.kernel_rows.Tie as tie

@@ -1,11 +1,11 @@
 -- `param_mapping::matching::recent_mapping` meets its contract. Assumes nothing.
 use mathlib.Core.List.{List}
 use native.Mathlib.Nat.{zero-mul}
+use Rattle.arith.proofs.Lists.{row-end}
 use Rattle.arith.specs.Lists.{filled}
 use Rattle.param_mapping.specs.Mapping.{none, mappedOf}
 use Rattle.history_rows.specs.Rows.{widthOf}
 use Rattle.history_rows.proofs.Parts.{first-part, part-length}
-use Rattle.history_rows.proofs.Recent.{row-inside}
 use Prim.Native.Nat.{ℕ, _+_, _-_, _*_, _≤_, _<_}
 use mathlib.Core.Path.{_≡_, refl, sym, ap, _∙_}
 use native.Mathlib.Omega.{arith}
@@ -34,13 +34,13 @@ part-mapped-start : tie.Need-part-mapped-start
 part-mapped-start c = search needs
 
 part-mapped-end : tie.Need-part-mapped-end
-part-mapped-end c = let a = c .before .before .args in let s = row-inside 0 (a .m) (widthOf (a .n)) (let l : 0 < a .m = omega arith in l) in omega arith
+part-mapped-end c = let a = c .before .before .args in let s = row-end 0 (a .m) (widthOf (a .n)) (let l : 0 < a .m = omega arith in l) in omega arith
 
 mapped-requires : tie.Need-mapped-requires
 mapped-requires c κs =
     let a = c .before .before .before in
     let w = widthOf (a .args .n) in
-    let s = row-inside 0 (a .args .m) w (let l : 0 < a .args .m = omega arith in l) in
+    let s = row-end 0 (a .args .m) w (let l : 0 < a .args .m = omega arith in l) in
     (search needs, search needs, rw (first-part w (a .args .r .now)) (part-length w (a .args .r .now) (0 * w) (omega arith)))
 
 returns-2 : tie.Need-returns-2

@@ -6,9 +6,8 @@ use native.Mathlib.Omega.{arith}
 use lib.ListN.{length}
 use lib.Ieee.{ofBits}
 use Rattle.arith.specs.Lists.{grown, padded}
-use Rattle.arith.proofs.Lists.{grown-set}
+use Rattle.arith.proofs.Lists.{grown-set, row-end}
 use Rattle.gp_model.specs.Kernels.{rowOf, similarityOf}
-use Rattle.lane_kernels.proofs.KernelRow.{row-end}
 use Rattle.search.specs.Predict.{kernelVectorOf}
 use borrow.Author.Needs.{needs}
 use Rattle.search.proofs.predicting.kernel_vector.Statement.{statement}
