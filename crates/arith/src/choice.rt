@@ -1,6 +1,5 @@
 // The size of a value, the larger of a value and a limit, and the least of several values.
 ghost use mathlib.Core.Path.{_≡_};
-ghost use lib.ListN.{length};
 ghost use Rattle.arith.specs.Bounds.{abs};
 ghost use Rattle.arith.specs.Choice.{atLeast, positivePart, lesserOf, leastOf};
 

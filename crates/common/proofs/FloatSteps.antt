@@ -21,7 +21,7 @@ use Rattle.arith.specs.Bounds.{abs, Within, Between, Sign}
 use Rattle.arith.specs.Rounding.{floorOf}
 use Rattle.arith.proofs.Tests.{either}
 use Rattle.arith.proofs.Order as order
-use Rattle.arith.proofs.Within.{bound, cross, abs-round, sub-in, div-in, within, within-finite, upper, lower}
+use Rattle.arith.proofs.Within.{bound, abs-round, sub-in, div-in, within, within-finite, upper, lower}
 use Rattle.arith.proofs.Mono.{ofInt-mono, add-left, add-right, sub-left, le-cross, Rounded, rounded-mono, sub-rounded, neg-finite}
 use Rattle.arith.proofs.Sign.{bit-of, mul-sign, div-sign}
 use Rattle.arith.proofs.Zero.{zeroF, zero-lt}

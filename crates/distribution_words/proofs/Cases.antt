@@ -3,7 +3,7 @@ use mathlib.Core.Path.{_≡_, refl}
 use mathlib.Core.Bool.{true, false}
 use mathlib.Core.List.{[], _∷_}
 use lib.IntN.{pos, negsuc}
-use lib.Ieee.{binary64, ofBits, toBits, ofInt, neg, le, lt, eq}
+use lib.Ieee.{ofBits, toBits, ofInt, neg, le, lt, eq}
 use Rattle.distribution.specs.declared.Distribution.{Distribution}
 use Rattle.distribution.specs.declared.Read.{Read}
 use Rattle.distribution.specs.Shape.{shapeOf, intShape, intStep, categoricalShape}

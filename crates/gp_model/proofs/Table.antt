@@ -1,6 +1,6 @@
 -- Where a table's cell lies: within the table, and within 2,000 places. Assumes nothing.
-use Prim.Native.Nat.{ℕ, suc, _+_, _*_, _≤_, _<_}
-use native.Mathlib.Nat.{mul-le-mul, mul-le-mul-right, suc-mul}
+use Prim.Native.Nat.{ℕ, _+_, _*_, _≤_}
+use native.Mathlib.Nat.{mul-le-mul, mul-le-mul-right}
 use native.Mathlib.Omega.{arith}
 
 pub table-small : (n d : ℕ) → n ≤ 100 → d ≤ 20 → n * d ≤ 2000

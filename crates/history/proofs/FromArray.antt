@@ -8,11 +8,10 @@ use lib.Dec.{eqb}
 use borrow.Author.Tests.{eq-eqb, eqb-true}
 use lib.Ieee.{Float}
 use Rattle.distribution.specs.Shape.{continuousOf}
-use Rattle.arith.specs.Lists.{every, filled, padded, placesOf}
+use Rattle.arith.specs.Lists.{filled, padded, placesOf}
 use Rattle.arith.proofs.Lists.{every-same, places-same, places-at, list-same, filled-at}
 use Rattle.dimensions.specs.declared.DimensionInfo.{DimensionInfo}
 use Rattle.param_mapping.specs.declared.Mapped.{Mapped}
-use Rattle.history.specs.declared.Training.{Training}
 use Rattle.dimensions.specs.Dimensions.{dimensionAt, columnsOf}
 use Rattle.param_mapping.specs.Mapping.{none, mappedOf, numberOf}
 use Rattle.history_rows.specs.Rows.{rowCount, rowAt, slotAt, recentOf}

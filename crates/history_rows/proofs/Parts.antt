@@ -1,6 +1,6 @@
 -- The parts of a list that the code lends: a row of its words, a slot of a row. Assumes nothing.
 use Prim.Native.Nat.{ℕ, _+_, _-_, _*_, _≤_, _<_}
-use mathlib.Core.Path.{_≡_, refl, _∙_}
+use mathlib.Core.Path.{_≡_, _∙_}
 use mathlib.Core.List.{List}
 use native.Mathlib.Nat.{add-sub-cancel-left, zero-mul, sub-zero}
 use native.Mathlib.Omega.{arith}

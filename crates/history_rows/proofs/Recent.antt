@@ -1,9 +1,9 @@
 -- Rows within their words, and how many the recent ones are. Assumes nothing.
 use Prim.Native.Nat.{ℕ, _+_, _-_, _*_, _/_, _%_, _≤_, _<_}
-use mathlib.Core.Path.{_≡_, refl, sym, ap, _∙_, subst}
+use mathlib.Core.Path.{_≡_, refl, sym, ap, _∙_}
 use mathlib.Core.Bool.{Bool, true, false, cond}
 use mathlib.Core.List.{List, [], _∷_}
-use native.Mathlib.Nat.{le-trans, div-add-mod', mul-div-cancel, div-mul-le-self, add-mul}
+use native.Mathlib.Nat.{div-add-mod', mul-div-cancel, div-mul-le-self, add-mul}
 use native.Mathlib.Omega.{arith}
 use lib.Dec.{T, leb, eqb→eq}
 use lib.ListN.{length, take, drop, length-drop}

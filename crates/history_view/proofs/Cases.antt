@@ -4,7 +4,7 @@ use native.Mathlib.Omega.{arith}
 use mathlib.Core.Logic.{inr}
 use mathlib.Core.Path.{_≡_, refl}
 use mathlib.Core.Bool.{true, false}
-use mathlib.Core.List.{[], _∷_, _++_, List·Permᴰ·swap}
+use mathlib.Core.List.{_∷_, _++_, List·Permᴰ·swap}
 use lib.Ieee.{ofBits, ofInt, toBits, neg, le, lt, eq, sub, div, round}
 use Rattle.arith.specs.Lists.{every, grown, placeOf, placesOf}
 use Rattle.encoding.specs.Bounds.{endsOf, boundsOf}

@@ -22,7 +22,7 @@ use Rattle.distribution.specs.declared.Read.{Read}
 use Rattle.distribution.specs.Shape.{power, continuousOf}
 use Rattle.distribution.specs.Taken.{takenOf, valueOf}
 use Rattle.distribution.proofs.Equals.{equal-trans}
-use Rattle.distribution.proofs.Facts.{parts, asked}
+use Rattle.distribution.proofs.Facts.{parts}
 use Rattle.common.proofs.Facts.{largest}
 use Rattle.gp_model.specs.Fit.{fitDomain}
 use Rattle.gp_model.specs.Statistics.{allWithin}
@@ -34,7 +34,7 @@ use Rattle.param_mapping.specs.Mapping.{none, mappedOf, numberOf}
 use Rattle.history_rows.specs.Rows.{rowCount, recentOf, rowAt, objectiveOf, slotAt}
 use Rattle.slots.specs.Slot.{idOf, takenWord}
 use Rattle.history_rows.specs.Tests.{rowOk, slotsOk, rowsAgreeing}
-use Rattle.slots.specs.Slot.{present, slotRead, takenRead, slotOk, sameId, readsEqual, agreeing}
+use Rattle.slots.specs.Slot.{present, slotRead, takenRead, slotOk, readsEqual, agreeing}
 use Rattle.slots.specs.Slot.{hasId}
 use Rattle.history_rows.specs.Slots.{slotWith}
 use Rattle.history.specs.Training.{coversOf, trainsOf, columnOf, keptOf, xOf, yOf, recentTraining, refusedOf, trainingOf}

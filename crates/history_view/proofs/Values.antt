@@ -37,11 +37,6 @@ floats-fit (Distribution.Float d) h = record { low = h .0; high = h .1 }
 floats-fit (Distribution.Int d) h = tt
 floats-fit (Distribution.Categorical d) h = tt
 
-pub continuous-is : (d : Distribution) → T (continuousOf d) → T (continuousOf d)
-continuous-is (Distribution.Float d) c = c
-continuous-is (Distribution.Int d) c = c
-continuous-is (Distribution.Categorical d) c = c
-
 -- a malformed distribution has no bounds
 pub bounds-shape : (d : Distribution) (lo hi : Float) → T (boundsAre (boundsOf d) lo hi) → T (shapeOf d)
 unfolding boundsOf
@@ -51,10 +46,10 @@ bounds-shape d lo hi t = go (shapeOf d) t
     go true t = tt
     go false t = t
 
--- a dimension that is a column of the model: continuousOf, with its distribution's bounds
+-- a dimension that is a column of the model: continuous, with its distribution's bounds
 pub record Column (d : DimensionInfo) : Type 0 where
   pub ok : T (dimensionOk d)
-  pub continuousOf : T (continuousOf (d .distribution))
+  pub continuous : T (continuousOf (d .distribution))
   pub held : Held (d .distribution)
   pub lo-fits : T (fits binary64 (d .lo))
   pub hi-fits : T (fits binary64 (d .hi))
@@ -66,7 +61,7 @@ shape d r = bounds-shape (d .distribution) (d .lo) (d .hi) (r .ok)
 pub ends : (d : DimensionInfo) → Column d → boundsOf (d .distribution) ≡ InternalBounds.Ends (d .lo) (d .hi)
 unfolding dimensionOk
 ends d r =
-    let b = bounds (d .distribution) (continuous-is (d .distribution) (r .continuousOf)) (floats-fit (d .distribution) (r .held)) (shape d r) in
+    let b = bounds (d .distribution) (r .continuous) (floats-fit (d .distribution) (r .held)) (shape d r) in
     let t : T (sameBits (b .lo) (d .lo) && sameBits (b .hi) (d .hi)) = subst (λ (i : InternalBounds). T (boundsAre i (d .lo) (d .hi))) (b .is) (r .ok) in
     let p = same-bits (b .lo) (d .lo) (b .rules .low-fits) (r .lo-fits) (search parts) in
     let q = same-bits (b .hi) (d .hi) (b .rules .high-fits) (r .hi-fits) (search parts) in
@@ -100,5 +95,5 @@ entry-within d r v e p t q =
     let w = valueOf e (takenWord v) in
     let k = subst T (sym (equal-taken (d .distribution) e q w)) t in
     let f = value-fits e (takenWord v) in
-    let x = encode-accepted (d .distribution) w (continuous-is (d .distribution) (r .continuousOf)) f (shape d r) k in
+    let x = encode-accepted (d .distribution) w (r .continuous) f (shape d r) k in
     rw (p, x .is) (scaled-within (x .value) (d .lo) (d .hi) (normalised (d .distribution) w (floats-fit (d .distribution) (r .held)) f (shape d r) k (x .value) (d .lo) (d .hi) (x .is) (ends d r)))

@@ -4,7 +4,7 @@ use mathlib.Core.Path.{_≡_, refl}
 use mathlib.Core.List.{List, [], _∷_}
 use lib.IntN.{pos}
 use lib.ListN.{getD}
-use lib.Ieee.{Float, binary64, ofInt, ofBits}
+use lib.Ieee.{Float, binary64, ofInt}
 use Rattle.arith.specs.Lists.{grown}
 use Rattle.arith.specs.Outcome.{valueOf}
 use Rattle.kernel.specs.Matern.{matern52Of}

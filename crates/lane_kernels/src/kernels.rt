@@ -7,7 +7,7 @@ ghost use lib.IntN.{pos};
 ghost use Rattle.arith.specs.Outcome.{valueOf};
 ghost use Rattle.arith.specs.Sums.{sumOver};
 ghost use Rattle.kernel.specs.Matern.{square, polynomialOf, atOf};
-ghost use Rattle.lanes.specs.Rows.{cell, eightOf, rowsOf};
+ghost use Rattle.lanes.specs.Rows.{eightOf, rowsOf};
 ghost use Rattle.lane_kernels.specs.Kernels.{distanceTerm, kernelRowsOf, kernelLanesOf};
 use crate::roots;
 

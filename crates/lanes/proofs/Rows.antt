@@ -1,7 +1,7 @@
 -- Rows of eight, and arrays of rows. Assumes nothing.
-use mathlib.Core.Path.{_≡_, sym, ap, _∙_}
+use mathlib.Core.Path.{_≡_, ap, _∙_}
 use mathlib.Core.List.{List, []}
-use Prim.Native.Nat.{ℕ, suc, _+_, _-_, _≤_, _<_}
+use Prim.Native.Nat.{ℕ, suc, _-_, _≤_, _<_}
 use lib.ListN.{length, getD, set}
 use lib.Ieee.{Float, nan, binary64, ofBits}
 use Rattle.arith.specs.Lists.{listOf, padded}

@@ -1,10 +1,9 @@
 // Sums of products, side by side.
 ghost use mathlib.Core.Path.{_≡_};
-ghost use Prim.Native.Nat.{ℕ, _≤_};
-ghost use lib.ListN.{getD, length};
+ghost use Prim.Native.Nat.{ℕ};
+ghost use lib.ListN.{getD};
 ghost use lib.Ieee.{nan, binary64, add, mul};
-ghost use Rattle.arith.specs.Sums.{sumOver};
-ghost use Rattle.lanes.specs.Rows.{cell, eightOf};
+ghost use Rattle.lanes.specs.Rows.{eightOf};
 ghost use Rattle.lanes.specs.Sums.{dotLanesOf, dotEachOf};
 
 // s and the product of a and b, lane by lane.

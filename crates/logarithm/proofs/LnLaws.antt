@@ -11,7 +11,7 @@ use lib.Ieee.Fits.{eq→eqb}
 use lib.Signed.{leZ}
 use lib.Pow.{pow-add, pow-pos, pow-mono, pow-lt, shl-lt}
 use lib.IntN.{ℤ, pos, negsuc, negℤ}
-use lib.Ieee.{Float, nan, inf, fin, binary64, up, add, mul, neg, lt, le, fits, minus, isNan, ofInt, ofBits, toBits}
+use lib.Ieee.{Float, nan, inf, fin, binary64, add, mul, neg, lt, le, fits, minus, isNan, ofInt, ofBits, toBits}
 use lib.Ieee.Bits as bits
 use lib.Ieee.Bits.{ofBits-toBits}
 use lib.Ieee.Exact.{HasValue}

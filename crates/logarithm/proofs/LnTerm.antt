@@ -9,7 +9,7 @@ use borrow.Author.Tests.{le-ltb, lt-ltb}
 use lib.Dec.{T, lit<, lit≤, eqb·suc-zero}
 use lib.Pow.{pow-add, pow-pos, pow-mono, shl-lt}
 use lib.IntN.{pos, negsuc}
-use lib.Ieee.{Float, nan, inf, fin, binary64, up, down, unlike, round, sum, add, sub, mul, div, neg, le, isNan, ofInt}
+use lib.Ieee.{Float, nan, inf, fin, binary64, up, down, round, sum, add, sub, mul, div, neg, le, isNan, ofInt}
 use lib.Ieee.Exact.{HasValue, round-exact}
 use lib.Ieee.Fits.{and-i, and-l, and-r, up-pos, down-pos}
 use lib.Ieee.Order.{round-mono}

@@ -13,8 +13,7 @@ use Rattle.param_mapping.specs.Mapping.{none, insertById, entriesOf, fir
 use Rattle.history_rows.specs.Rows.{wholeRows, rowCount, recentCount, recentOf}
 use Rattle.history_rows.specs.Tests.{rowOk, slotsOk, idsOnce, rowsAgreeing, recentTests, refusalOf}
 use Rattle.slots.specs.Slot.{slotRead, slotOk, agreeing}
-use Rattle.history_rows.proofs.Samples.{row}
-use Rattle.param_mapping.proofs.Samples.{int, dims, some, first, second, third}
+use Rattle.param_mapping.proofs.Samples.{int, dims, some, first, second}
 
 abbrev Mappings : Type 0
 Mappings =

@@ -6,7 +6,7 @@ use mathlib.Core.Bool.{Bool, not, _&&_}
 use mathlib.Core.List.{List, [], _∷_}
 use lib.ListN.{length, getD, set, take, replicate, getD-replicate}
 use lib.Seq.{take-nil, drop-nil, set-getD}
-use Rattle.arith.specs.Lists.{every, grown, filled}
+use Rattle.arith.specs.Lists.{grown, filled}
 use Rattle.arith.proofs.Lists.{every-same, grown-length, grown-filled-set, filled-at}
 use Rattle.distribution.specs.declared.Distribution.{Distribution}
 use Rattle.distribution.specs.declared.Read.{Read}

@@ -1,6 +1,6 @@
 -- What a new trial with a model stores: the decoding of the earliest point drawn whose expected improvement is at least every other's. Assumes nothing.
 use Prim.Native.Nat.{ℕ, zero, suc, _+_, _*_, _<_}
-use mathlib.Core.Path.{_≡_, refl, sym, ap, _∙_, subst}
+use mathlib.Core.Path.{_≡_, sym, ap, _∙_, subst}
 use mathlib.Core.Bool.{Bool, true, _&&_, cond}
 use mathlib.Core.List.{List, [], _∷_, _++_}
 use mathlib.Core.Logic.{inl, inr}
@@ -11,7 +11,7 @@ use lib.Seq.{getD-append-seam}
 use lib.Ieee.{Float, nan, binary64, le, lt, ofBits}
 use lib.Ieee.Bits.{is-true}
 use Rattle.distribution.specs.Shape.{continuousOf}
-use Rattle.arith.specs.Lists.{filled, padded}
+use Rattle.arith.specs.Lists.{padded}
 use Rattle.arith.proofs.Lists.{filled-at, padded-at, grown-length}
 use Rattle.rng_util.specs.Draws.{unitOf}
 use Rattle.rng_util.specs.Generator.{streamOf}
@@ -19,11 +19,10 @@ use Rattle.common.specs.declared.RandomDraw.{RandomDraw}
 use Rattle.common.specs.Random.{sampleRandomOf}
 use Rattle.gp_model.specs.declared.Fit.{Fit}
 use Rattle.gp_model.specs.declared.Model.{Model}
-use Rattle.search.specs.Earliest.{Earliest, drawnOf}
+use Rattle.search.specs.Earliest.{drawnOf}
 use Rattle.search.specs.Search.{scoreOf, optimizeAcquisitionOf}
 use Rattle.search.proofs.Earliest.{search-earliest}
 use Rattle.dimensions.specs.declared.DimensionInfo.{DimensionInfo}
-use Rattle.history.specs.declared.Training.{Training}
 use Rattle.history_view.specs.declared.View.{View}
 use Rattle.dimensions.specs.Dimensions.{dimensionAt, columnsOf}
 use Rattle.history_view.specs.View.{viewOf}

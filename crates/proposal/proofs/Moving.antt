@@ -1,6 +1,6 @@
 -- The word after a new trial's values is the word before them, moved as often as the answer says. Assumes nothing.
 use Prim.Native.Nat.{ℕ, zero, suc, _+_, _*_, _≤_}
-use mathlib.Core.Path.{_≡_, refl, sym, ap, _∙_, subst}
+use mathlib.Core.Path.{_≡_, refl, sym, ap, _∙_}
 use mathlib.Core.Bool.{Bool, true, false, not, _&&_, cond}
 use mathlib.Core.List.{List, []}
 use native.Mathlib.Nat.{add-comm, zero-add, not-suc-le-zero}
@@ -22,7 +22,7 @@ use Rattle.gp_model.specs.Fit.{fitDomain, refusedOf, modelOf, factoredOf, fitte
 use Rattle.gp_model.specs.Kernels.{kernelMatrixOf}
 use Rattle.gp_model.specs.Statistics.{lengthscalesOf}
 use Rattle.search.specs.Predict.{countsFit}
-use Rattle.search.specs.Search.{searchDomain, optimizeAcquisitionOf}
+use Rattle.search.specs.Search.{searchDomain}
 use Rattle.search.proofs.Earliest.{search-earliest}
 use Rattle.dimensions.specs.declared.DimensionInfo.{DimensionInfo}
 use Rattle.history.specs.declared.Training.{Training}
@@ -32,7 +32,6 @@ use Rattle.param_mapping.specs.Mapping.{numberOf}
 use Rattle.history_view.specs.View.{viewOf}
 use Rattle.settings.specs.declared.Settings.{Settings}
 use Rattle.settings.specs.Settings.{settingsOk}
-use Rattle.common.proofs.Moves.{Moved}
 use Rattle.proposal.specs.declared.Point.{Point}
 use Rattle.proposal.specs.Proposal.{fromPoint, atRandom, candidateOf, candidateNumber, refusedOf as refusedProposal, computeCandidateOf}
 use Rattle.proposal.specs.Points.{fitFor, searchPoint, unitPoint, pointFor}

@@ -1,13 +1,12 @@
 -- Which answer a new trial's number says, and how many words its point takes. Assumes nothing.
-use Prim.Native.Nat.{ℕ, _*_, _≤_}
-use mathlib.Core.Path.{_≡_, refl, sym, ap, _∙_}
+use Prim.Native.Nat.{ℕ, _≤_}
+use mathlib.Core.Path.{_≡_, sym, ap, _∙_}
 use mathlib.Core.Bool.{Bool, true, false, not, _&&_, cond}
 use mathlib.Core.List.{List}
 use native.Mathlib.Nat.{mul-le-mul}
 use native.Mathlib.Omega.{arith}
 use lib.Dec.{eqb, leb, leb→le}
-use lib.Ieee.{Float, le, binary64, ofBits}
-use lib.Ieee.Fits.{and-l, and-r}
+use lib.Ieee.{Float, le}
 use borrow.Author.Tests.{eq-eqb, ne-eqb}
 use Rattle.arith.proofs.Tests.{taken}
 use Rattle.distribution.proofs.Facts.{parts}
@@ -15,7 +14,6 @@ use Rattle.dimensions.specs.declared.DimensionInfo.{DimensionInfo}
 use Rattle.history.specs.declared.Training.{Training}
 use Rattle.param_mapping.specs.Mapping.{numberOf}
 use Rattle.history_view.specs.View.{viewOf}
-use Rattle.history.specs.Training.{trainingOf}
 use Rattle.history.proofs.Counts.{Counts, training-counts}
 use Rattle.history.proofs.FromArray.{training-number}
 use Rattle.param_mapping.proofs.Opened.{opened}

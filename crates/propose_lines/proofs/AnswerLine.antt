@@ -1,10 +1,10 @@
 -- The line of an answer: four words, 17 bytes each. Assumes nothing.
 use Prim.Native.Nat.{ℕ, _+_}
-use mathlib.Core.Path.{_≡_, refl, sym, ap, ap₂, _∙_}
-use mathlib.Core.List.{List, [], _∷_, _++_, append-assoc, append-nil}
+use mathlib.Core.Path.{_≡_, refl, sym, ap, _∙_}
+use mathlib.Core.List.{List, [], _∷_, _++_, append-nil}
 use native.Mathlib.Omega.{arith}
 use lib.ListN.{length, take, drop, length-append, length-drop, drop-of-length-le}
-use lib.Seq.{paste, take-at, take-all, drop-append-add, drop-drop}
+use lib.Seq.{paste, take-at, take-all, drop-append-add}
 use Rattle.word_text.specs.Digits.{digitsOf}
 use Rattle.word_text.proofs.Digits.{length-last}
 use Rattle.propose_lines.specs.Lines.{printed, answerLine}

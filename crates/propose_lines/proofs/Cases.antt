@@ -1,7 +1,7 @@
 -- The definitions of stored words at single points, computed. Assumes nothing.
 use Prim.Native.Nat.{ℕ}
 use mathlib.Core.Path.{_≡_, refl}
-use mathlib.Core.Bool.{Bool, true, false}
+use mathlib.Core.Bool.{true, false}
 use mathlib.Core.List.{List, [], _∷_, _++_}
 use Rattle.arith.specs.Lists.{every, grown, placeOf}
 use Rattle.word_text.specs.Digits.{allDigits, ofDigits, lastDigits, digitsOf}

@@ -2,8 +2,7 @@
 ghost use mathlib.Core.Path.{_≡_};
 ghost use Prim.Native.Nat.{_+_, _*_, _≤_};
 ghost use lib.ListN.{length};
-ghost use Rattle.arith.specs.Lists.{every};
-ghost use Rattle.propose_lines.specs.Lines.{spacedOf, isWord, wordAt};
+ghost use Rattle.propose_lines.specs.Lines.{spacedOf};
 ghost use Rattle.propose_lines.specs.Stored.{WordsStored, roomFor, WordsRead};
 use word_text::Parsed;
 

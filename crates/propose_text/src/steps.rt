@@ -3,7 +3,7 @@ ghost use mathlib.Core.Path.{_≡_};
 ghost use mathlib.Core.Bool.{cond};
 ghost use mathlib.Core.List.{List};
 ghost use Prim.Native.Nat.{ℕ, min};
-ghost use lib.ListN.{length, take};
+ghost use lib.ListN.{length};
 ghost use Rattle.text_laws.specs.Steps.{Reading, readingOf, steppedOf, awaits, ends, named, settingsOf, settingsLine, rowLine, historyLine, callLine, historyNamed, sampledOf, answeredOf, startOf, stepOf, finishAt, finishOf};
 ghost use Rattle.text_laws.specs.declared.Event.{Event};
 ghost use Rattle.text_laws.specs.declared.Stage.{Stage};

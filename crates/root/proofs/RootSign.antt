@@ -1,6 +1,6 @@
 -- The square root of a value that is not below 0 is not below 0. Assumes nothing.
 use mathlib.Core.Logic.{inl, inr}
-use Prim.Native.Nat.{ℕ, zero, suc, _^_}
+use Prim.Native.Nat.{zero, suc, _^_}
 use native.Mathlib.Omega.{arith}
 use mathlib.Core.Bool.{true, false, true≢false}
 use lib.Pow.{pow-pos}

@@ -2,7 +2,6 @@
 ghost use mathlib.Core.Path.{_≡_};
 ghost use Prim.Native.Nat.{_+_, _-_, _*_, _/_, _%_, _^_, _≤_, _<_};
 ghost use lib.Dec.{leb};
-ghost use lib.Ieee.{binary64, ofBits};
 ghost use Rattle.root.specs.Sqrt.{sqrtOf};
 ghost use Rattle.root.specs.RootParts.{Near, Pattern};
 ghost use Rattle.root.specs.Rooted.{SqrtIsRounded};

@@ -1,7 +1,6 @@
 -- A distribution read from six words is well-formed, and its floats are binary64's, whatever the words. Assumes nothing.
 use mathlib.Core.Path.{_≡_, subst}
 use Prim.Native.Nat.{ℕ}
-use native.Mathlib.Omega.{arith}
 use mathlib.Core.Bool.{Bool, true, false, _&&_, cond}
 use mathlib.Core.Logic.{_⊎_, inl, inr}
 use lib.Dec.{T, leb, eqb}
@@ -15,7 +14,7 @@ use Rattle.distribution.specs.declared.Distribution.{Distribution}
 use Rattle.distribution.specs.declared.Read.{Read}
 use Rattle.distribution_words.specs.RoundTrip.{Held}
 use Rattle.distribution.specs.Shape.{shapeOf}
-use Rattle.distribution_words.specs.Words.{only, checkedOf, floatRead, intRead, categoricalRead, readOf}
+use Rattle.distribution_words.specs.Words.{checkedOf, floatRead, intRead, categoricalRead, readOf}
 use Rattle.distribution_words.proofs.RoundTrip.{malformed, only-is}
 
 pick : (b : Bool) (x y : Read) (d : Distribution) → cond b x y ≡ Read.WellFormed d → (x ≡ Read.WellFormed d) ⊎ (y ≡ Read.WellFormed d)

@@ -1,18 +1,17 @@
 -- Every new trial with a model stores the decoding of the best point drawn for it. Assumes nothing.
 use Prim.Native.Nat.{ℕ, _<_}
 use mathlib.Core.Path.{_≡_, refl, sym, ap, _∙_, subst}
-use mathlib.Core.Bool.{Bool, true, false, not, _&&_, _||_, cond}
+use mathlib.Core.Bool.{Bool, true, false, not, _||_, cond}
 use mathlib.Core.List.{List, []}
 use native.Mathlib.Omega.{arith}
-use lib.Dec.{T, eqb, leb, ltb, eqb→eq}
+use lib.Dec.{T, eqb, ltb, eqb→eq}
 use lib.ListN.{length, getD, set}
 use lib.Seq.{getD-set-same, getD-set-other}
 use lib.Ieee.{Float, nan}
 use lib.Ieee.Fits.{and-l, and-r}
-use lib.Ieee.Bits.{is-true, is-false}
+use lib.Ieee.Bits.{is-true}
 use borrow.Author.Tests.{ltb-true, eqb-true, eqb-false, eq-eqb}
 use Rattle.distribution.specs.Shape.{continuousOf}
-use Rattle.arith.specs.Lists.{every}
 use Rattle.arith.proofs.Lists.{place-is, place-some, each-every}
 use Rattle.arith.proofs.Tests.{taken, untaken, by-test}
 use Rattle.distribution.specs.declared.Distribution.{Distribution}
@@ -22,19 +21,17 @@ use Rattle.distribution.proofs.Facts.{parts}
 use Rattle.dimensions.specs.declared.DimensionInfo.{DimensionInfo}
 use Rattle.dimensions.specs.Dimensions.{dimensionAt, columnsOf}
 use Rattle.history_rows.specs.Tests.{refusalOf}
-use Rattle.history_view.specs.View.{viewOf}
-use Rattle.proposal.specs.declared.Proposal.{Proposal}
 use Rattle.proposal.specs.Proposal.{computeCandidateOf}
 use Rattle.dimensions.specs.Empty.{emptyStored}
 use Rattle.proposal.specs.Values.{decodeOf}
-use Rattle.proposal.proofs.Decoded.{Decodes, StoresEarliest, stores-earliest}
+use Rattle.proposal.proofs.Decoded.{Decodes, stores-earliest}
 use Rattle.sampler_state.specs.declared.Place.{Place}
 use Rattle.sampler_laws.specs.declared.Sampled.{Sampled}
 use Rattle.sampler_state.specs.declared.Sampler.{Sampler}
-use Rattle.sampler_laws.specs.Calls.{refusedOf, withWord, withPlace, activated, unlessRefused, storedOf, newTrialOf, nextOf, activeOf, discoverOf, servedOf, askedOf, sampleOf}
-use Rattle.sampler_laws.specs.NewTrials.{pastDiscovery, newTrial, servedHistory, hasModel, fitMade, fitAnswer, continuous, pointDrawn, Stores, StoresBest, BestStored}
+use Rattle.sampler_laws.specs.Calls.{activated, unlessRefused, newTrialOf, activeOf, discoverOf, servedOf, askedOf, sampleOf}
+use Rattle.sampler_laws.specs.NewTrials.{pastDiscovery, newTrial, servedHistory, hasModel, fitMade, fitAnswer, pointDrawn, Stores, BestStored}
 use Rattle.sampler_laws.specs.Runs.{Asked, asks, closes, Call, callOf}
-use Rattle.sampler_state.specs.State.{emptyPlace, placeAt, taken as isTaken, holds, trialPlace, freePlace, storedAt, samplerOk}
+use Rattle.sampler_state.specs.State.{emptyPlace, placeAt, holds, trialPlace, freePlace, samplerOk}
 
 -- ---- a trial's place, written
 

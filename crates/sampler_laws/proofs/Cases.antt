@@ -22,7 +22,6 @@ use Rattle.history_rows.specs.Rows.{wholeRows, rowCount, recentCount, recentOf}
 use Rattle.history_rows.specs.Tests.{recentTests, refusalOf}
 use Rattle.history.specs.Training.{keptOf, xOf, yOf, trainingOf, recentTraining}
 use Rattle.history_view.specs.View.{viewOf}
-use Rattle.settings.specs.declared.Settings.{Settings}
 use Rattle.settings.specs.Settings.{settingsOk}
 use Rattle.proposal.specs.Proposal.{candidateOf, candidateNumber, computeCandidateOf}
 use Rattle.proposal.specs.Values.{stepOf, walkOf}

@@ -30,7 +30,7 @@ use Rattle.sampler_state.specs.declared.Place.{Place}
 use Rattle.sampler_state.specs.declared.Sampler.{Sampler}
 use Rattle.sampler_laws.specs.Calls.{withWord, withPlace, activated, withDimension}
 use Rattle.sampler_laws.specs.Laws.{Typed}
-use Rattle.sampler_state.specs.State.{emptyPlace, placeAt, taken, holds, storedOk, storedAt, placeOk}
+use Rattle.sampler_state.specs.State.{emptyPlace, placeAt, taken, storedOk, storedAt, placeOk}
 use Rattle.sampler_laws.proofs.Parts.{Once, Ok, Well, formed}
 
 -- two places are one or not

@@ -1,9 +1,7 @@
 -- Demand 3: equal runs, and the best point in each. Assumes nothing.
-use Prim.Native.Nat.{ℕ}
 use mathlib.Core.Path.{_≡_, refl}
 use mathlib.Core.List.{List, [], _∷_}
 use lib.ListN.{length}
-use Rattle.settings.specs.declared.Settings.{Settings}
 use Rattle.sampler_state.specs.declared.Sampler.{Sampler}
 use Rattle.sampler_laws.specs.Laws.{EqualRuns}
 use Rattle.sampler_laws.specs.NewTrials.{BestStored}

@@ -9,7 +9,6 @@ use Rattle.distribution.specs.declared.Distribution.{Distribution}
 use Rattle.distribution.specs.declared.Read.{Read}
 use Rattle.distribution_words.specs.Words.{readOf}
 use Rattle.history_rows.specs.Tests.{refusalOf}
-use Rattle.settings.specs.declared.Settings.{Settings}
 use Rattle.proposal.specs.declared.Proposal.{Proposal}
 use Rattle.proposal.specs.Proposal.{computeCandidateOf}
 use Rattle.sampler_state.specs.declared.Place.{Place}

@@ -1,14 +1,13 @@
 -- Two runs whose histories agree at each call answer the same and end in the same sampler: a history is seen only through its number and its view. Assumes nothing.
 use Prim.Native.Nat.{ℕ}
 use mathlib.Core.Path.{_≡_, refl, sym, ap, _∙_, subst}
-use mathlib.Core.Bool.{Bool, true, false, not, _&&_, _||_, cond}
+use mathlib.Core.Bool.{not, _&&_, _||_, cond}
 use mathlib.Core.List.{List, [], _∷_}
-use lib.Dec.{T, eqb, ltb}
+use lib.Dec.{eqb, ltb}
 use Rattle.distribution.specs.declared.Distribution.{Distribution}
 use Rattle.distribution.specs.declared.ParamValue.{ParamValue}
 use Rattle.distribution.specs.declared.Read.{Read}
 use Rattle.distribution_words.specs.Words.{readOf}
-use Rattle.common.specs.Random.{sampleRandomOf}
 use Rattle.dimensions.specs.declared.DimensionInfo.{DimensionInfo}
 use Rattle.history_view.specs.declared.View.{View}
 use Rattle.history_view.specs.Agree.{Agree}

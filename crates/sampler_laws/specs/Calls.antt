@@ -1,6 +1,6 @@
 -- The two calls, `sample` and `close`, as one definition each. `Sampler::sample` of gp.rs is the reference; `close` is added. Definitions only.
 use Prim.Native.Nat.{ℕ, _+_}
-use mathlib.Core.Bool.{Bool, true, _||_, cond}
+use mathlib.Core.Bool.{true, _||_, cond}
 use mathlib.Core.List.{List, []}
 use lib.Dec.{eqb, ltb}
 use lib.ListN.{set}

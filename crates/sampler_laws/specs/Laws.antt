@@ -13,7 +13,6 @@ use Rattle.distribution_words.specs.RoundTrip.{Held}
 use Rattle.distribution.specs.Shape.{shapeOf}
 use Rattle.distribution_words.specs.Words.{readOf}
 use Rattle.common.specs.Random.{sampleRandomOf}
-use Rattle.history_view.specs.Agree.{Agree}
 use Rattle.dimensions.specs.Dimensions.{dimensionAt}
 use Rattle.history_rows.specs.Tests.{refusalOf}
 use Rattle.settings.specs.declared.Settings.{Settings}

@@ -1,7 +1,7 @@
 -- What a sampler that is well-formed has. Assumes nothing.
 use Prim.Native.Nat.{_≤_}
 use mathlib.Core.Path.{_≡_}
-use mathlib.Core.Bool.{true, _&&_}
+use mathlib.Core.Bool.{true}
 use lib.Dec.{T}
 use Rattle.arith.proofs.Tests.{taken}
 use Rattle.distribution.proofs.Facts.{parts}

@@ -1,9 +1,8 @@
 -- "Sampler: settings, generator word, phase, discovery trial number, at most 20 dimensions, 32 progress places (trial, values, next dimension)." Definitions only.
 use Prim.Native.Nat.{ℕ}
-use mathlib.Core.Bool.{Bool, true, false, not, _&&_, _||_, cond}
+use mathlib.Core.Bool.{Bool, false, not, _&&_, _||_, cond}
 use mathlib.Core.List.{List, []}
 use lib.Dec.{eqb, leb, ltb}
-use lib.IntN.{ℤ}
 use lib.Signed.{leZ}
 use lib.ListN.{length, getD, replicate}
 use lib.Ieee.{binary64, ofBits}
@@ -15,7 +14,6 @@ use Rattle.dimensions.specs.declared.DimensionInfo.{DimensionInfo}
 use Rattle.dimensions.specs.Dimensions.{dimensionAt, dimensionsOk}
 use Rattle.settings.specs.declared.Settings.{Settings}
 use Rattle.settings.specs.Settings.{settingsOk}
-use Rattle.dimensions.specs.declared.Stored.{Stored}
 use Rattle.dimensions.specs.Empty.{emptyStored}
 use Rattle.sampler_state.specs.declared.Place.{Place}
 use Rattle.sampler_state.specs.declared.Sampler.{Sampler}

@@ -1,19 +1,17 @@
 -- Lines of words: printed and read again. Assumes nothing.
-use Prim.Native.Nat.{ℕ, zero, suc, _+_, _*_, _-_, _^_, _≤_, _<_}
+use Prim.Native.Nat.{ℕ, zero, suc, _+_, _*_, _-_, _≤_, _<_}
 use mathlib.Core.Path.{_≡_, refl, sym, ap, ap₂, subst, _∙_}
-use mathlib.Core.Bool.{Bool, true, false, not, _&&_, false≢true, and-assoc, and-true}
+use mathlib.Core.Bool.{Bool, true, false, _&&_, false≢true, and-assoc, and-true}
 use mathlib.Core.List.{List, [], _∷_, _++_}
-use native.Mathlib.Numerals.{add-one}
-use native.Mathlib.Nat.{mul-suc, suc-add}
 use native.Mathlib.Omega.{arith}
-use borrow.Author.Tests.{eq-eqb, ne-eqb, eqb-true, eqb-false, ltb-true}
+use borrow.Author.Tests.{eq-eqb, ne-eqb, eqb-true, eqb-false}
 use lib.Dec.{eqb, ltb}
-use lib.ListN.{length, getD, take, drop, length-append, length-drop}
+use lib.ListN.{length, getD, take, drop, length-append}
 use lib.Seq.{split-at, take-at, take-all, drop-append-add, getD-append-add, getD-at, length-take-le}
 use Rattle.arith.specs.Lists.{every, grown, listOf}
 use Rattle.arith.proofs.Lists.{every-not, every-same, list-same}
 use Rattle.word_text.specs.declared.Parsed.{Parsed}
-use Rattle.word_text.specs.Digits.{valueOf, allDigits, ofDigits, digitsOf, parseOf}
+use Rattle.word_text.specs.Digits.{valueOf, allDigits, digitsOf, parseOf}
 use Rattle.word_text.proofs.Digits.{length-last, all-last}
 use Rattle.word_text.proofs.RoundTrip.{reads, prints}
 use Rattle.propose_lines.specs.Lines.{wordAt, isWord, wordOf, spacedOf, isWords, wordsIn}

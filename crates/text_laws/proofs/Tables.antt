@@ -1,24 +1,22 @@
 -- The tables of a text, one after the other, as they are read. Assumes nothing.
-use Prim.Native.Nat.{ℕ, zero, suc, _+_, _*_, _≤_, _<_}
-use mathlib.Core.Path.{_≡_, refl, sym, ap, ap₂, subst, _∙_}
-use mathlib.Core.Bool.{Bool, true, false, _&&_, cond, false≢true}
+use Prim.Native.Nat.{ℕ, zero, suc, _+_, _≤_}
+use mathlib.Core.Path.{_≡_, refl, sym, ap, subst, _∙_}
+use mathlib.Core.Bool.{Bool, true, false, false≢true}
 use mathlib.Core.List.{List, [], _∷_, _++_, append-assoc, append-nil}
 use native.Mathlib.Omega.{arith}
-use borrow.Author.Tests.{le-leb, leb-true, eq-eqb}
-use lib.Dec.{eqb, leb}
+use borrow.Author.Tests.{le-leb}
 use lib.ListN.{length, getD, length-append}
 use Rattle.distribution.specs.Value.{kindOf, wordOf}
 use Rattle.settings.specs.declared.Settings.{Settings}
 use Rattle.settings.specs.Settings.{settingsOk}
 use Rattle.sampler_state.specs.declared.Sampler.{Sampler}
-use Rattle.sampler_laws.specs.Calls.{sampleOf}
 use Rattle.sampler_laws.specs.Runs.{answersOf, endOf}
 use Rattle.sampler_state.specs.State.{makeOf, freshOf}
 use Rattle.text_laws.specs.declared.Event.{Event}
 use Rattle.text_laws.specs.declared.Stage.{Stage}
-use Rattle.propose_lines.specs.Lines.{isWords, wordsIn, answerLine}
+use Rattle.propose_lines.specs.Lines.{isWords, answerLine}
 use Rattle.propose_lines.specs.Names.{settingsNames, rowNames, slotNames, slotsNames, historyNames, callNames, sameBytes}
-use Rattle.text_laws.specs.Steps.{Reading, Stepped, ends, settingsOf, madeOf, sampledOf, answeredOf, slotsOf, rowWords, settingsLine, rowLine, historyLine, callLine, startOf, stepOf, finishOf}
+use Rattle.text_laws.specs.Steps.{Reading, Stepped, ends, settingsOf, madeOf, sampledOf, answeredOf, slotsOf, rowWords, settingsLine, rowLine, historyLine, callLine, stepOf}
 use Rattle.text_laws.specs.Texts.{readOf, ended, lineOf, linesOf, Words, Table, joined, callsOf, answerLines}
 use Rattle.propose_lines.proofs.Bytes.{same-self, same-equal}
 use Rattle.text_laws.proofs.Cut.{plain, plain-append, read-ended, silent}

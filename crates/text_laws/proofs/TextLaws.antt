@@ -1,7 +1,7 @@
 -- What is written for a text, whatever text it is. Assumes nothing.
-use Prim.Native.Nat.{ℕ, zero, suc, _+_, _*_, _^_, _≤_, _<_}
-use mathlib.Core.Path.{_≡_, refl, sym, ap, ap₂, subst, _∙_}
-use mathlib.Core.Bool.{Bool, true, false, not, _&&_, cond, false≢true}
+use Prim.Native.Nat.{ℕ, zero, suc, _+_, _^_, _≤_, _<_}
+use mathlib.Core.Path.{_≡_, refl, sym, ap, _∙_}
+use mathlib.Core.Bool.{Bool, true, false, not, _&&_}
 use mathlib.Core.List.{List, [], _∷_, _++_, append-assoc, append-nil}
 use native.Mathlib.Omega.{arith}
 use borrow.Author.Tests.{le-leb, leb-true, ne-eqb}
@@ -11,17 +11,17 @@ use lib.Ieee.{binary64, ofBits, le}
 use Rattle.settings.specs.declared.Settings.{Settings}
 use Rattle.settings.specs.Settings.{settingsOk}
 use Rattle.sampler_state.specs.declared.Sampler.{Sampler}
-use Rattle.sampler_laws.specs.Runs.{answersOf, endOf}
+use Rattle.sampler_laws.specs.Runs.{endOf}
 use Rattle.sampler_state.specs.State.{freshOf, noSampler}
 use Rattle.text_laws.specs.declared.Event.{Event}
 use Rattle.text_laws.specs.declared.Stage.{Stage}
-use Rattle.text_laws.specs.Laws.{NoCall, TextAnswers, LongLines}
+use Rattle.text_laws.specs.Laws.{NoCall, TextAnswers}
 use Rattle.propose_lines.specs.Lines.{isWords, wordsIn, answerLine}
 use Rattle.propose_lines.specs.Names.{settingsNames, historyNames, callNames, answerNames, sameBytes}
-use Rattle.text_laws.specs.Steps.{Reading, Stepped, ends, settingsOf, slotsOf, rowWords, settingsLine, rowLine, historyLine, callLine, startOf, stepOf, finishOf}
-use Rattle.text_laws.specs.Texts.{readOf, ended, writtenOf, lineOf, linesOf, Words, Table, joined, Document, WellFormed, slotsIn, headOf, textOf, callsOf, answerLines, answersTo}
+use Rattle.text_laws.specs.Steps.{ends, settingsOf, slotsOf, rowWords, settingsLine, rowLine, historyLine, callLine, startOf, stepOf, finishOf}
+use Rattle.text_laws.specs.Texts.{readOf, ended, writtenOf, lineOf, linesOf, Words, Table, joined, Document, WellFormed, slotsIn, headOf, textOf, callsOf, answersTo}
 use Rattle.propose_lines.proofs.Bytes.{same-equal}
-use Rattle.text_laws.proofs.Cut.{plain, read-ended, read-rest, Cut, no-line, a-line, cut}
+use Rattle.text_laws.proofs.Cut.{plain, read-rest, Cut, no-line, a-line, cut}
 use Rattle.text_laws.proofs.LineWords.{words-read-back, line-plain}
 use Rattle.text_laws.proofs.Tables.{at, last-line, next-line, read-settings-names, read-settings, read-refused, read-history-names, read-rows, row-step, read-call-names, read-calls}
 use Rattle.arith.proofs.Tests.{both}

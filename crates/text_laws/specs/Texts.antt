@@ -1,15 +1,15 @@
 -- Whole texts: how one is read, which are well-formed, and what is answered. Definitions only.
 use Prim.Native.Nat.{ℕ, _+_, _^_, _≤_, _<_}
 use mathlib.Core.Path.{_≡_}
-use mathlib.Core.Bool.{Bool, true, cond}
+use mathlib.Core.Bool.{true, cond}
 use mathlib.Core.List.{List, [], _∷_, _++_}
-use lib.Dec.{T, eqb}
+use lib.Dec.{eqb}
 use lib.ListN.{length, getD}
 use Rattle.word_text.specs.Digits.{digitsOf}
 use Rattle.distribution.specs.declared.ParamValue.{ParamValue}
 use Rattle.distribution.specs.Value.{kindOf, wordOf}
 use Rattle.settings.specs.Settings.{settingsOk}
-use Rattle.sampler_laws.specs.Runs.{Asked, Call, asks, answersOf}
+use Rattle.sampler_laws.specs.Runs.{Call, asks, answersOf}
 use Rattle.sampler_state.specs.State.{freshOf}
 use Rattle.propose_lines.specs.Lines.{answerLine}
 use Rattle.propose_lines.specs.Names.{settingsNames, historyNames, callNames, answerNames}

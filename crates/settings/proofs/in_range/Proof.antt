@@ -2,7 +2,6 @@
 use lib.Ieee.{binary64, ofBits, le}
 use borrow.Author.Tests.{le-leb, lt-leb, eq-eqb, ne-eqb, not-true, not-false}
 use Rattle.settings.specs.Settings.{settingsOk}
-use borrow.Author.Needs.{needs}
 use Rattle.settings.proofs.in_range.Statement.{statement}
 use Rattle.settings.proofs.in_range.Tie as tie
 

@@ -1,6 +1,6 @@
 -- `history::building::kept` meets its contract. Assumes nothing.
 use Prim.Native.Nat.{ℕ, _-_, _*_, _≤_, _<_}
-use mathlib.Core.Path.{_≡_, refl, sym, ap, _∙_}
+use mathlib.Core.Path.{_≡_, refl, ap, _∙_}
 use mathlib.Core.Bool.{Bool}
 use native.Mathlib.Numerals.{add-one}
 use native.Mathlib.Omega.{arith}

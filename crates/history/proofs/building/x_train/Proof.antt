@@ -1,13 +1,13 @@
 -- `history::building::x_train` meets its contract. Assumes nothing.
 use native.Mathlib.Nat.{mul-le-mul}
-use Prim.Native.Nat.{ℕ, _+_, _-_, _*_, _/_, _%_, _≤_, _<_}
-use mathlib.Core.Path.{_≡_, refl, sym, ap, _∙_}
+use Prim.Native.Nat.{ℕ, _-_, _*_, _/_, _%_, _≤_, _<_}
+use mathlib.Core.Path.{_≡_, refl, ap, _∙_}
 use native.Mathlib.Numerals.{add-one}
 use native.Mathlib.Omega.{arith}
 use lib.ListN.{length, getD}
 use lib.Ieee.{ofBits}
 use Rattle.arith.specs.Lists.{grown, listOf, padded}
-use Rattle.arith.proofs.Lists.{grown-set, row-end}
+use Rattle.arith.proofs.Lists.{grown-set}
 use Rattle.history_rows.specs.Rows.{widthOf, rowAt}
 use Rattle.history.specs.Training.{columnOf, xOf}
 use Rattle.history.proofs.KeptRows.{asked}

@@ -1,6 +1,6 @@
 -- `history::building::y_train` meets its contract. Assumes nothing.
 use Rattle.history_rows.proofs.Parts.{part-at}
-use Prim.Native.Nat.{ℕ, _+_, _-_, _*_, _≤_, _<_}
+use Prim.Native.Nat.{ℕ, _-_, _*_, _≤_, _<_}
 use mathlib.Core.Path.{_≡_, refl, sym, ap, _∙_}
 use native.Mathlib.Numerals.{add-one}
 use native.Mathlib.Omega.{arith}

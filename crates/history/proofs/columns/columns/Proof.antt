@@ -1,9 +1,8 @@
 -- `history::columns::columns` meets its contract. Assumes nothing.
 use lib.ListN.{length}
 use Rattle.history.proofs.PlaceList.{columns-few, columns-more}
-use Prim.Native.Nat.{ℕ, _+_, _-_, _*_, _≤_, _<_}
+use Prim.Native.Nat.{ℕ, _-_, _≤_, _<_}
 use mathlib.Core.Path.{_≡_, refl, sym, ap, _∙_}
-use mathlib.Core.Bool.{true, false, not, _&&_}
 use native.Mathlib.Numerals.{add-one}
 use native.Mathlib.Omega.{arith}
 use Rattle.arith.specs.Lists.{placesOf}

@@ -1,7 +1,7 @@
 -- `history_rows::tests::first_row_with` meets its contract. Assumes nothing.
-use Prim.Native.Nat.{_+_, _-_, _*_, _≤_, _<_}
-use mathlib.Core.Path.{_≡_, refl, sym, ap, _∙_}
-use mathlib.Core.Bool.{true, false, not, _&&_}
+use Prim.Native.Nat.{_-_, _*_, _≤_}
+use mathlib.Core.Path.{_≡_, refl, sym, _∙_}
+use mathlib.Core.Bool.{true, not}
 use native.Mathlib.Numerals.{add-one}
 use native.Mathlib.Omega.{arith}
 use borrow.Author.Tests.{lt-ltb, le-ltb}
@@ -9,7 +9,6 @@ use lib.Dec.{ltb}
 use Rattle.arith.specs.Lists.{every}
 use Rattle.arith.proofs.Lists.{place-is, place-none, row-end}
 use Rattle.history_rows.proofs.Parts.{part, lent-length}
-use lib.ListN.{length, getD}
 use Rattle.history_rows.specs.First.{firstRowWith}
 use Rattle.history_rows.specs.Rows.{widthOf, rowAt}
 use Rattle.history_rows.specs.Slots.{slotWith}

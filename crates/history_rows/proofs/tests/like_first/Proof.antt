@@ -6,7 +6,7 @@ use Rattle.history_rows.specs.Rows.{widthOf, rowAt}
 use Rattle.history_rows.specs.Slots.{slotWith}
 use Rattle.history_rows.proofs.First.{first-place, none-first}
 use Prim.Native.Nat.{ℕ, _*_, _≤_, _<_}
-use mathlib.Core.Path.{_≡_, sym, subst}
+use mathlib.Core.Path.{sym, subst}
 use native.Mathlib.Omega.{arith}
 use Rattle.history_rows.proofs.Parts.{part, lent-length}
 use Rattle.history_rows.specs.First.{firstRowWith, likeFirst}

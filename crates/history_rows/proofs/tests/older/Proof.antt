@@ -1,6 +1,6 @@
 -- `history_rows::tests::older` meets its contract. Assumes nothing.
-use Prim.Native.Nat.{_+_, _-_, _*_, _/_, _≤_, _<_}
-use native.Mathlib.Nat.{le-trans, mul-le-mul-right, div-mul-le-self, sub-self, zero-mul}
+use Prim.Native.Nat.{_-_, _/_, _≤_, _<_}
+use native.Mathlib.Nat.{mul-le-mul-right, div-mul-le-self, sub-self, zero-mul}
 use native.Mathlib.Omega.{arith}
 use lib.ListN.{length}
 use borrow.Author.Tests.{le-leb, lt-leb}

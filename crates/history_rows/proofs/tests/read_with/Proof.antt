@@ -1,9 +1,7 @@
 -- `history_rows::tests::read_with` meets its contract. Assumes nothing.
-use Prim.Native.Nat.{_+_, _-_, _*_, _≤_, _<_}
-use mathlib.Core.Path.{_≡_, refl, sym, ap, _∙_}
-use native.Mathlib.Omega.{arith}
-use Rattle.history_rows.proofs.Parts.{part, lent-length}
-use Rattle.slots.specs.Slot.{slotRead}
+use Prim.Native.Nat.{_+_, _-_, _*_}
+use mathlib.Core.Path.{sym}
+use Rattle.history_rows.proofs.Parts.{part}
 use borrow.Author.Needs.{needs}
 use Rattle.history_rows.proofs.tests.read_with.Statement.{statement}
 use Rattle.history_rows.proofs.tests.read_with.Tie as tie

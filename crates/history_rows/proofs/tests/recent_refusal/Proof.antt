@@ -1,6 +1,5 @@
 -- `history_rows::tests::recent_refusal` meets its contract. Assumes nothing.
 use mathlib.Core.Path.{_≡_, sym, _∙_}
-use mathlib.Core.Bool.{Bool}
 use Rattle.arith.specs.Lists.{every}
 use Rattle.history_rows.specs.Rows.{rowAt}
 use Rattle.history_rows.specs.Tests.{rowsAgreeing, recentTests}

@@ -1,13 +1,13 @@
 -- `history_rows::tests::row_like_first` meets its contract. Assumes nothing.
-use Prim.Native.Nat.{ℕ, _+_, _-_, _*_, _≤_, _<_}
+use Prim.Native.Nat.{ℕ, _+_, _-_, _*_, _≤_}
 use mathlib.Core.Path.{_≡_, refl, sym, ap, _∙_}
-use mathlib.Core.Bool.{true, false, not, _&&_}
+use mathlib.Core.Bool.{true}
 use native.Mathlib.Numerals.{add-one}
 use native.Mathlib.Omega.{arith}
 use borrow.Author.Tests.{not-true, not-false}
 use Rattle.arith.specs.Lists.{every}
 use Rattle.arith.proofs.Lists.{every-not}
-use Rattle.history_rows.proofs.Parts.{part, lent-length}
+use Rattle.history_rows.proofs.Parts.{part}
 use Rattle.history_rows.specs.First.{likeFirst, rowLikeFirst}
 use Rattle.history_rows.specs.Rows.{slotAt}
 use borrow.Author.Needs.{needs}

@@ -1,13 +1,11 @@
 -- `param_mapping::matching::first_entry` meets its contract. Assumes nothing.
 use Rattle.param_mapping.proofs.Least.{entries-better}
-use Prim.Native.Nat.{ℕ, _+_, _-_, _*_, _≤_, _<_}
+use Prim.Native.Nat.{ℕ, _+_, _-_, _*_, _≤_}
 use mathlib.Core.Path.{_≡_, refl, sym, ap, _∙_}
-use mathlib.Core.Bool.{true, false, not, _&&_}
 use native.Mathlib.Numerals.{add-one}
 use native.Mathlib.Omega.{arith}
-use Rattle.history_rows.proofs.Parts.{part, lent-length}
+use Rattle.history_rows.proofs.Parts.{part}
 use Rattle.param_mapping.specs.Mapping.{firstEntry, entriesOf, matchesOf}
-use Rattle.history_rows.specs.Rows.{slotAt}
 use borrow.Author.Needs.{needs}
 use Rattle.param_mapping.proofs.matching.first_entry.Statement.{statement}
 use Rattle.param_mapping.proofs.matching.first_entry.Tie as tie

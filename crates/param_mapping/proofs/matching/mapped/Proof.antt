@@ -1,8 +1,7 @@
 -- `param_mapping::matching::mapped` meets its contract. Assumes nothing.
 use Rattle.param_mapping.proofs.MappedList.{mapped-set}
-use Prim.Native.Nat.{ℕ, _+_, _-_, _*_, _≤_, _<_}
+use Prim.Native.Nat.{ℕ, _-_, _≤_, _<_}
 use mathlib.Core.Path.{_≡_, refl, sym, ap, _∙_}
-use mathlib.Core.Bool.{true, false, not, _&&_}
 use native.Mathlib.Numerals.{add-one}
 use native.Mathlib.Omega.{arith}
 use Rattle.arith.specs.Lists.{grown, filled}

@@ -6,8 +6,8 @@ use Rattle.arith.specs.Lists.{filled}
 use Rattle.param_mapping.specs.Mapping.{none, mappedOf}
 use Rattle.history_rows.specs.Rows.{widthOf}
 use Rattle.history_rows.proofs.Parts.{first-part, part-length}
-use Prim.Native.Nat.{ℕ, _+_, _-_, _*_, _≤_, _<_}
-use mathlib.Core.Path.{_≡_, refl, sym, ap, _∙_}
+use Prim.Native.Nat.{ℕ, _-_, _*_, _<_}
+use mathlib.Core.Path.{_≡_, sym, ap, _∙_}
 use native.Mathlib.Omega.{arith}
 use lib.ListN.{length}
 use Rattle.param_mapping.proofs.MappedList.{mapped-none, no-row}

@@ -1,6 +1,5 @@
 -- `proposal::proposing::candidate` meets its contract. Assumes nothing.
 use mathlib.Core.Path.{sym}
-use native.Mathlib.Omega.{arith}
 use Rattle.proposal.specs.Proposal.{candidateOf}
 use Rattle.proposal.proofs.Numbers.{point-few}
 use borrow.Author.Needs.{needs}

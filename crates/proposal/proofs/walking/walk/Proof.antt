@@ -1,17 +1,16 @@
 -- `proposal::walking::walk` meets its contract. Assumes nothing.
 use Rattle.history.proofs.PlaceList.{columns-few}
 use Prim.Native.Nat.{ℕ, suc, _+_, _-_, _≤_, _<_}
-use mathlib.Core.Path.{_≡_, refl, sym, ap, _∙_}
+use mathlib.Core.Path.{_≡_, refl, sym, ap}
 use native.Mathlib.Numerals.{add-one}
 use native.Mathlib.Omega.{arith}
 use lib.ListN.{length, getD}
 use lib.Ieee.{nan, ofBits}
 use Rattle.arith.specs.Lists.{filled, placesOf}
-use Rattle.arith.proofs.Lists.{filled-set-at}
 use Rattle.dimensions.specs.Dimensions.{dimensionAt, columnsOf}
 use Rattle.dimensions.specs.Empty.{emptyStored}
 use Rattle.proposal.specs.Values.{stepOf, walkOf, valuesIn}
-use Rattle.proposal.proofs.Walk.{step-moves, walk-length, walk-few, walk-set, columns-next}
+use Rattle.proposal.proofs.Walk.{step-moves, walk-few, walk-set, columns-next}
 use borrow.Author.Needs.{needs}
 use Rattle.proposal.proofs.walking.walk.Statement.{statement}
 use Rattle.proposal.proofs.walking.walk.Tie as tie

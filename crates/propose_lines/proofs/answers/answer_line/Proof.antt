@@ -1,5 +1,5 @@
 -- `propose_lines::answers::answer_line` meets its contract. Assumes nothing.
-use mathlib.Core.Path.{refl, _∙_}
+use mathlib.Core.Path.{refl}
 use lib.ListN.{replicate}
 use Rattle.propose_lines.specs.Lines.{answerLine}
 use Rattle.propose_lines.proofs.AnswerLine.{four-words}

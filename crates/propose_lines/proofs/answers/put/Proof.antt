@@ -1,12 +1,12 @@
 -- `propose_lines::answers::put` meets its contract. Assumes nothing.
-use Prim.Native.Nat.{ℕ, _+_, _-_, _≤_, _<_}
-use mathlib.Core.Path.{_≡_, refl, sym, ap, _∙_}
-use mathlib.Core.List.{[], _∷_, _++_}
+use Prim.Native.Nat.{_+_, _-_, _≤_}
+use mathlib.Core.Path.{_≡_, sym, ap, _∙_}
+use mathlib.Core.List.{[], _∷_}
 use native.Mathlib.Numerals.{add-one}
 use native.Mathlib.Omega.{arith}
 use borrow.Author.Needs.{needs}
-use lib.ListN.{length, getD, set, length-append, List·getD-append}
-use lib.Seq.{paste, paste-zero, paste-suc, length-paste, getD-at}
+use lib.ListN.{length, set, List·getD-append}
+use lib.Seq.{paste, paste-zero, paste-suc, getD-at}
 use Rattle.word_text.specs.Digits.{digitsOf}
 use Rattle.word_text.proofs.Digits.{length-last}
 use Rattle.propose_lines.specs.Lines.{printed}

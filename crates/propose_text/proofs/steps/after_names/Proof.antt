@@ -1,5 +1,4 @@
 -- `propose_text::steps::after_names` meets its contract. Assumes nothing.
-use mathlib.Core.Path.{_∙_}
 use borrow.Author.Needs.{needs}
 use Rattle.propose_text.proofs.steps.after_names.Statement.{statement}
 use Rattle.propose_text.proofs.steps.after_names.Tie as tie

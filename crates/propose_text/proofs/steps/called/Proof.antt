@@ -1,6 +1,6 @@
 -- `propose_text::steps::called` meets its contract. Assumes nothing.
 use Prim.Native.Nat.{_-_}
-use mathlib.Core.Path.{_≡_, _∙_}
+use mathlib.Core.Path.{_≡_}
 use native.Mathlib.Nat.{sub-zero}
 use lib.ListN.{length, take}
 use Rattle.propose_text.proofs.Held.{held-part}

@@ -1,5 +1,4 @@
 -- `propose_text::steps::ending` meets its contract. Assumes nothing.
-use mathlib.Core.Path.{_∙_}
 use Rattle.propose_lines.proofs.AnswerLine.{whole-line}
 use borrow.Author.Needs.{needs}
 use Rattle.propose_text.proofs.steps.ending.Statement.{statement}

@@ -1,6 +1,6 @@
 -- `sampler::calls::sample` meets its contract. Assumes nothing.
 use Rattle.sampler_state.proofs.Checked.{dimensions-few}
-use mathlib.Core.Path.{_≡_, sym, ap, _∙_}
+use mathlib.Core.Path.{_≡_, sym, _∙_}
 use mathlib.Core.Bool.{true}
 use borrow.Author.Tests.{not-true, not-false}
 use Rattle.arith.proofs.Tests.{taken}

@@ -1,6 +1,5 @@
 -- `sampler::phases::discovers` meets its contract. Assumes nothing.
 use borrow.Author.Tests.{eq-eqb, ne-eqb}
-use borrow.Author.Needs.{needs}
 use Rattle.sampler.proofs.phases.discovers.Statement.{statement}
 use Rattle.sampler.proofs.phases.discovers.Tie as tie
 

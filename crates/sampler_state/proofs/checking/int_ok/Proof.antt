@@ -2,9 +2,7 @@
 use mir.Syntax.{w64}
 use mir.Val.{toZ, ofZ}
 use lib.IntN.{ℤ}
-use mathlib.Core.Path.{_≡_, refl, sym, ap, _∙_}
-use Rattle.distribution.specs.declared.Distribution.{Distribution}
-use Rattle.sampler_state.specs.State.{storedOk}
+use mathlib.Core.Path.{_≡_}
 use borrow.Author.Needs.{needs}
 use Rattle.sampler_state.proofs.checking.int_ok.Statement.{statement}
 use Rattle.sampler_state.proofs.checking.int_ok.Tie as tie

@@ -5,7 +5,6 @@ use lib.Signed.{leZ}
 use mir.Syntax.{w64}
 use mir.Val.{toZ, ofZ}
 use mir.ValLaws.{toZ-ofZ}
-use borrow.Author.Needs.{needs}
 use Rattle.sampler_state.proofs.checking.is_between.Statement.{statement}
 use Rattle.sampler_state.proofs.checking.is_between.Tie as tie
 

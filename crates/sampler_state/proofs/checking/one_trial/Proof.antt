@@ -1,5 +1,5 @@
 -- `sampler_state::checking::one_trial` meets its contract. Assumes nothing.
-use mathlib.Core.Path.{_≡_, refl, sym, ap, _∙_}
+use mathlib.Core.Path.{sym, ap, _∙_}
 use mathlib.Core.Bool.{Bool, _&&_}
 use Rattle.sampler_state.specs.State.{holds}
 use borrow.Author.Needs.{needs}

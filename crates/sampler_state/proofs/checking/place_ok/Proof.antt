@@ -1,11 +1,7 @@
 -- `sampler_state::checking::place_ok` meets its contract. Assumes nothing.
-use mathlib.Core.Path.{_≡_, sym, ap, _∙_}
-use mathlib.Core.Bool.{Bool, not, _&&_, _||_}
-use lib.Dec.{leb}
+use mathlib.Core.Path.{sym}
 use borrow.Author.Tests.{lt-leb, le-leb, not-true, not-false}
-use Rattle.arith.specs.Lists.{every}
-use Rattle.dimensions.specs.Dimensions.{dimensionAt}
-use Rattle.sampler_state.specs.State.{taken, storedOk, storedAt, placeOk}
+use Rattle.sampler_state.specs.State.{taken, placeOk}
 use borrow.Author.Needs.{needs}
 use Rattle.sampler_state.proofs.checking.place_ok.Statement.{statement}
 use Rattle.sampler_state.proofs.checking.place_ok.Tie as tie

@@ -1,14 +1,12 @@
 -- `sampler_state::checking::sampler_ok` meets its contract. Assumes nothing.
-use mathlib.Core.Path.{_≡_, sym, ap, _∙_}
-use mathlib.Core.Bool.{true, false}
-use lib.Dec.{eqb}
+use mathlib.Core.Path.{_≡_, sym, _∙_}
+use mathlib.Core.Bool.{true}
 use borrow.Author.Tests.{ne-eqb, eq-eqb, not-true, not-false}
 use Rattle.arith.proofs.Tests.{taken}
-use Rattle.arith.specs.Lists.{every}
 use Rattle.dimensions.specs.Dimensions.{dimensionsOk}
 use Rattle.dimensions.proofs.Ok.{dimensions-ok}
 use Rattle.settings.specs.Settings.{settingsOk}
-use Rattle.sampler_state.specs.State.{placeAt, placeOk, trialsOnce, samplerOk}
+use Rattle.sampler_state.specs.State.{samplerOk}
 use borrow.Author.Needs.{needs}
 use Rattle.sampler_state.proofs.checking.sampler_ok.Statement.{statement}
 use Rattle.sampler_state.proofs.checking.sampler_ok.Tie as tie

@@ -1,7 +1,7 @@
 -- `sampler_state::checking::trial_once` meets its contract. Assumes nothing.
 use mathlib.Core.Path.{_≡_, refl, sym, ap, _∙_}
 use Prim.Native.Nat.{ℕ, _-_, _≤_, _<_}
-use mathlib.Core.Bool.{Bool, true, false, not, _&&_}
+use mathlib.Core.Bool.{true, not, _&&_}
 use native.Mathlib.Numerals.{add-one}
 use native.Mathlib.Omega.{arith}
 use lib.ListN.{length, getD}
@@ -9,7 +9,6 @@ use Rattle.arith.specs.Lists.{every}
 use Rattle.sampler_state.specs.declared.Place.{Place}
 use Rattle.sampler_state.proofs.Elements.{same-element}
 use Rattle.arith.proofs.Lists.{every-not}
-use borrow.Author.Tests.{not-true, not-false}
 use Rattle.sampler_state.specs.State.{emptyPlace, placeAt, taken, holds}
 use borrow.Author.Needs.{needs}
 use Rattle.sampler_state.proofs.checking.trial_once.Statement.{statement}

@@ -1,10 +1,9 @@
 -- `sampler_state::checking::trials_once` meets its contract. Assumes nothing.
 use mathlib.Core.Path.{_≡_, refl, sym, ap, _∙_}
-use Prim.Native.Nat.{ℕ, _-_, _≤_, _<_}
-use mathlib.Core.Bool.{Bool, true, false, not, _&&_}
+use Prim.Native.Nat.{ℕ, _-_, _≤_}
+use mathlib.Core.Bool.{true, not, _&&_}
 use native.Mathlib.Numerals.{add-one}
 use native.Mathlib.Omega.{arith}
-use lib.ListN.{length, getD}
 use Rattle.arith.specs.Lists.{every}
 use Rattle.arith.proofs.Lists.{every-not}
 use borrow.Author.Tests.{not-true, not-false}

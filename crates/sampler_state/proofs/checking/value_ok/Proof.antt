@@ -1,5 +1,5 @@
 -- `sampler_state::checking::value_ok` meets its contract. Assumes nothing.
-use mathlib.Core.Path.{_≡_, refl, sym, ap, _∙_}
+use mathlib.Core.Path.{sym, ap, _∙_}
 use Rattle.distribution.specs.declared.Distribution.{Distribution}
 use Rattle.distribution.specs.Taken.{takenOf}
 use Rattle.sampler_state.specs.State.{storedOk}

@@ -1,6 +1,5 @@
 -- `sampler_state::places::is_held` meets its contract. Assumes nothing.
 use borrow.Author.Tests.{le-leb, lt-leb}
-use borrow.Author.Needs.{needs}
 use Rattle.sampler_state.proofs.places.is_held.Statement.{statement}
 use Rattle.sampler_state.proofs.places.is_held.Tie as tie
 
