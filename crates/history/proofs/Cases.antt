@@ -1,11 +1,12 @@
 -- The training data at small histories, computed. Assumes nothing.
 use Prim.Native.Nat.{ℕ, _*_}
 use mathlib.Core.Path.{_≡_, refl}
-use mathlib.Core.Bool.{false}
+use mathlib.Core.Bool.{true, false}
 use mathlib.Core.List.{List, [], _∷_, _++_}
 use lib.ListN.{take}
 use lib.IntN.{pos}
 use lib.Ieee.{Float, binary64, ofBits, ofInt, toBits, neg, le, lt, eq, sub, div, round}
+use Rattle.history.specs.Places.{placesIn, withPlace}
 use Rattle.arith.specs.Lists.{every, grown, placeOf, placesOf}
 use Rattle.encoding.specs.Bounds.{endsOf, boundsOf}
 use Rattle.encoding.specs.Encode.{encodedOf, toInternalOf}
@@ -49,3 +50,14 @@ Trainings =
 trainings : Trainings
 unfolding trainingOf recentTraining columnsOf keptOf trainsOf coversOf slotWith placeOf placesOf xOf yOf columnOf entryOf toInternalOf encodedOf toNormalizedOf sub div round mappedOf numberOf entriesOf insertById firstEntry consumedOf matchesOf dimensionOk dimensionsOk grown boundsOf endsOf refusalOf recentTests wholeRows rowCount recentCount recentOf rowOk slotRead slotOk agreeing slotsOk idsOnce rowsAgreeing every equalOf intEqual floatEqual shapeOf intShape intStep categoricalShape floatStep takenOf valueOf floatTaken intTaken readOf checkedOf floatRead intRead categoricalRead ofBits ofInt toBits neg le lt eq
 trainings = (refl, refl, refl, refl)
+
+-- places in an array, with their count; one more where the test holds
+abbrev Listed : Type 0
+Listed =
+    (take 3 (placesIn (2 ∷ 5 ∷ []) .at) ≡ 2 ∷ 5 ∷ 0 ∷ [])
+    × (placesIn (2 ∷ 5 ∷ []) .count ≡ 2)
+    × (withPlace (2 ∷ 0 ∷ 0 ∷ []) 1 7 true ≡ record { count = 2; at = 2 ∷ 7 ∷ 0 ∷ [] })
+    × (withPlace (2 ∷ 0 ∷ 0 ∷ []) 1 7 false ≡ record { count = 1; at = 2 ∷ 0 ∷ 0 ∷ [] })
+
+listed : Listed
+listed = (refl, refl, refl, refl)

@@ -10,7 +10,7 @@ use Rattle.distribution.specs.Equal.{equalOf, floatEqual, intEqual}
 use Rattle.distribution.specs.Shape.{shapeOf, floatStep}
 use Rattle.distribution.specs.Taken.{takenOf, valueOf, floatTaken, intTaken}
 use Rattle.distribution_words.specs.Words.{readOf, checkedOf, floatRead, intRead, categoricalRead}
-use Rattle.history_rows.specs.First.{firstRowWith, likeFirst, rowLikeFirst}
+use Rattle.history_rows.specs.First.{firstRowWith, likeFirst, rowLikeFirst, passesOf}
 use Rattle.history_rows.specs.Recent.{recentPart}
 use Rattle.history_rows.specs.Slots.{slotWith, slotPlace}
 use Rattle.history_rows.specs.Rows.{wholeRows, rowCount, recentCount, recentOf}
@@ -91,3 +91,16 @@ Firsts =
 firsts : Firsts
 unfolding rowLikeFirst likeFirst firstRowWith slotWith placeOf slotRead every equalOf intEqual shapeOf readOf checkedOf intRead ofBits neg le lt eq
 firsts = (refl, refl, refl, refl)
+
+-- a row whose state alone is bad, one that has an id twice, and one whose distribution is not the first of its id
+abbrev Passes : Type 0
+Passes =
+    (passesOf 4 1 1 (row 4 absent) (row 4 absent) ≡ false)
+    × (passesOf 5 1 1 (row 4 absent) (row 4 absent) ≡ true)
+    × (passesOf 5 2 1 (row 0 (slot 9 9 5 ++ slot 9 9 5)) (row 0 (slot 9 9 5 ++ slot 9 9 5)) ≡ true)
+    × (passesOf 6 2 1 (row 0 (slot 9 9 5 ++ slot 9 9 5)) (row 0 (slot 9 9 5 ++ slot 9 9 5)) ≡ false)
+    × (passesOf 7 1 2 (row 0 (slot 9 9 5) ++ row 0 (slot 9 8 5)) (row 0 (slot 9 8 5)) ≡ false)
+
+passes : Passes
+unfolding rowOk slotsOk slotOk idsOnce rowLikeFirst likeFirst firstRowWith slotWith placeOf slotRead every equalOf intEqual floatEqual shapeOf floatStep takenOf valueOf floatTaken intTaken readOf checkedOf floatRead intRead categoricalRead ofBits neg le lt eq
+passes = (refl, refl, refl, refl, refl)

@@ -4,12 +4,12 @@ use mathlib.Core.Path.{_≡_, refl}
 use mathlib.Core.List.{List, [], _∷_}
 use lib.IntN.{pos}
 use lib.ListN.{getD}
-use lib.Ieee.{Float, binary64, ofInt}
+use lib.Ieee.{Float, binary64, ofInt, ofBits, sub, mul, div, round}
 use Rattle.arith.specs.Lists.{grown}
 use Rattle.arith.specs.Outcome.{valueOf}
 use Rattle.kernel.specs.Matern.{matern52Of}
 use Rattle.lanes.specs.Rows.{eightOf, zeroRow}
-use Rattle.lane_kernels.specs.Kernels.{kernelLanesOf}
+use Rattle.lane_kernels.specs.Kernels.{kernelLanesOf, distanceTerm}
 
 abbrev whole : ℕ → Float
 whole n = ofInt binary64 (pos n)
@@ -39,3 +39,8 @@ Vectors =
 vectors : Vectors
 unfolding kernelLanesOf grown
 vectors = (refl, refl, refl, refl, refl, refl)
+
+-- column 0 of lane 5 and of row 1: 5 less 30, over 1, squared; column 1 of lane 5 and of row 0: 3 less 20, over 2, squared
+terms : (distanceTerm points table 2 scales 1 5 0 ≡ whole 625) × (distanceTerm points table 2 scales 0 5 1 ≡ ofBits binary64 0x4052100000000000)
+unfolding grown sub div mul round ofInt ofBits
+terms = (refl, refl)

@@ -1,7 +1,10 @@
 -- The mapping at small histories, computed. Assumes nothing.
 use mathlib.Core.Path.{_≡_, refl}
+use mathlib.Core.Bool.{true, false}
 use mathlib.Core.List.{[], _∷_, _++_}
 use lib.Ieee.{binary64, ofBits, ofInt, toBits, neg, le, lt, eq}
+use Rattle.history_rows.proofs.Samples.{slot, absent}
+use Rattle.param_mapping.specs.MappingParts.{betterOf}
 use Rattle.arith.specs.Lists.{every, grown, filled}
 use Rattle.encoding.specs.Bounds.{endsOf, boundsOf}
 use Rattle.distribution.specs.Equal.{equalOf, floatEqual, intEqual}
@@ -30,3 +33,15 @@ Mappings =
 mappings : Mappings
 unfolding mappingOf numberOf mappedOf entriesOf insertById firstEntry consumedOf matchesOf dimensionOk dimensionsOk grown boundsOf endsOf refusalOf recentTests wholeRows rowCount recentCount recentOf rowOk slotRead slotOk agreeing slotsOk idsOnce rowsAgreeing every equalOf intEqual floatEqual shapeOf intShape intStep categoricalShape floatStep takenOf valueOf floatTaken intTaken readOf checkedOf floatRead intRead categoricalRead ofBits ofInt toBits neg le lt eq
 mappings = (refl, refl, refl, refl, refl)
+
+-- of two entries that fit the one of lesser id; an absent slot, and one that does not fit, leave the entry found so far
+abbrev Better : Type 0
+Better =
+    (betterOf (λ v. true) (slot 4 4 1) (some 9) ≡ some 4)
+    × (betterOf (λ v. true) (slot 9 4 1) (some 4) ≡ some 4)
+    × (betterOf (λ v. true) (slot 9 4 1) none ≡ some 9)
+    × (betterOf (λ v. true) absent (some 9) ≡ some 9)
+    × (betterOf (λ v. false) (slot 4 4 1) (some 9) ≡ some 9)
+
+better : Better
+better = (refl, refl, refl, refl, refl)

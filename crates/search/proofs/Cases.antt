@@ -1,8 +1,11 @@
 -- The definitions at small points, computed; the words are what the unchanged Rust gives, with document 01's exp and sqrt. Assumes nothing.
 use mathlib.Core.Path.{_≡_, refl}
 use mathlib.Core.List.{[], _∷_}
-use lib.ListN.{take}
+use lib.ListN.{take, getD}
 use lib.Ieee.{binary64, ofBits, toBits, round, add, sub, mul, div, neg, lt, le, isNan, ofInt}
+use Rattle.lanes.specs.Rows.{zeroRow}
+use Rattle.search.specs.declared.Search.{Search}
+use Rattle.search.specs.Eights.{startsOf, columnOf, pointsOf, keptEachOf}
 use Rattle.acquisition.specs.Improvement.{expectedImprovementOf}
 use Rattle.acquisition.specs.Normal.{normCdfOf, normPdfOf, polynomialOf, upperOf}
 use Rattle.arith.specs.Choice.{leastOfFirst}
@@ -15,14 +18,14 @@ use Rattle.factor.specs.Cholesky.{columnsOf, choleskyOf}
 use Rattle.factor.specs.Solve.{backwardOf, solveOf}
 use Rattle.factor.specs.Triangle.{rowsOf, lessOf}
 use Rattle.kernel.specs.Matern.{scaledRootOf, decayOf, matern52Of}
-use Rattle.rng_util.specs.Draws.{unitOf}
+use Rattle.rng_util.specs.Draws.{unitOf, unitDrawOf}
 use Rattle.rng_util.specs.Generator.{movedOf, nextOf, xorLeft, xorRight}
 use Rattle.gp_model.specs.Fit.{fitDomain, fittedOf, fitOf}
 use Rattle.gp_model.specs.Kernels.{covarianceOf, similarityOf}
 use Rattle.gp_model.specs.Statistics.{allWithin, lengthscaleOf, meanOf, standardOf, valueDeviationOf, varianceOf}
 use Rattle.gp_model.proofs.Cases.{float, half, one, two, word}
 use Rattle.search.specs.Predict.{countsFit, posteriorMeanOf, posteriorStdOf, predictOf}
-use Rattle.search.specs.Search.{advanceOf, optimizeAcquisitionOf, scoreOf, searchDomain}
+use Rattle.search.specs.Search.{advanceOf, optimizeAcquisitionOf, scoreOf, searchDomain, pointOf, startOf}
 
 -- ---- predictions at 1, by the models of gp_model/proofs/Cases
 abbrev Predicted : Type 0
@@ -55,3 +58,29 @@ Found =
 found : Found
 unfolding optimizeAcquisitionOf searchDomain countsFit advanceOf scoreOf expectedImprovementOf normCdfOf normPdfOf polynomialOf upperOf unitOf movedOf nextOf xorLeft xorRight posteriorMeanOf posteriorStdOf fitOf fitDomain fittedOf allWithin every covarianceOf similarityOf lengthscaleOf varianceOf meanOf valueDeviationOf standardOf leastOfFirst choleskyOf columnsOf rowsOf lessOf grown solveOf backwardOf matern52Of scaledRootOf decayOf sumOver expOf hornerOf reducedOf scaledOf wholeOf nearestOf roundOf sqrtOf rootOf isqrt ofBits toBits round add sub mul div neg lt le isNan ofInt
 found = (refl, refl, refl, refl, refl, refl, refl)
+
+-- ---- eight at a time, from the words of document 01's sample book: 1, 40822041, 100041060c011441
+
+abbrev Eight : Type 0
+Eight =
+    (take 3 (startsOf 1 1 .words) ≡ 1 ∷ 0x40822041 ∷ 0x100041060c011441 ∷ [])
+    × (take 2 (startsOf 2 1 .words) ≡ 1 ∷ 0x100041060c011441 ∷ [])
+    × (startsOf 0 1 .next ≡ 1)
+    -- the first lane's float and next word
+    × (take 1 (columnOf (1 ∷ []) .values) ≡ unitOf 0x40822041 ∷ [])
+    × (take 1 (columnOf (1 ∷ []) .next) ≡ 0x40822041 ∷ [])
+    -- two coordinates of the first lane, and no third row
+    × (take 1 (getD (pointsOf 2 (1 ∷ [])) 0 []) ≡ unitOf 0x40822041 ∷ [])
+    × (take 1 (getD (pointsOf 2 (1 ∷ [])) 1 []) ≡ unitOf 0x100041060c011441 ∷ [])
+    × (getD (pointsOf 2 (1 ∷ [])) 2 [] ≡ zeroRow)
+    -- of the scores 1, 2, 2 the second is kept; the word stays
+    × (take 1 (kept .«best_x») ≡ pointOf 1 0x40822041)
+    × (kept .«best_ei» ≡ float 2)
+    × (kept .word ≡ 7)
+  where
+    kept : Search
+    kept = keptEachOf 1 (1 ∷ 0x40822041 ∷ 0x100041060c011441 ∷ []) (float 1 ∷ float 2 ∷ float 2 ∷ []) 3 (startOf 1 7)
+
+eight : Eight
+unfolding keptEachOf unitDrawOf movedOf nextOf xorLeft xorRight grown lt ofBits ofInt
+eight = (refl, refl, refl, refl, refl, refl, refl, refl, refl, refl, refl)
