@@ -11,7 +11,6 @@ use Rattle.root.specs.Sqrt.{isqrt, rootOf, sqrtOf}
 use Rattle.factor.specs.Triangle.{at, entry, rowsOf, lessOf}
 use Rattle.factor.specs.Cholesky.{restOf, elementOf, columnsOf, factorOf, positive, choleskyOf}
 use Rattle.factor.specs.Solve.{forwardAt, forwardOf, backwardAt, backwardOf, solveOf}
-use Rattle.factor.specs.SolveParts.{pairOf}
 
 abbrev float : ℕ → Float
 float n = ofInt binary64 (pos n)
@@ -54,12 +53,10 @@ Parts =
     × (forwardAt factor (float 6 ∷ float 7 ∷ []) (float 3 ∷ []) 1 ≡ float 2)
     × (backwardAt factor (float 3 ∷ float 2 ∷ []) 0 1 (float 1 ∷ []) ≡ float 1)
     × (backwardOf factor (float 3 ∷ float 2 ∷ []) 2 1 ≡ float 1 ∷ [])
-    -- the rows 1 and 2 of 2, 1 2 and 3 4 5, less the product before column 1
-    × (pairOf (float 2 ∷ float 1 ∷ float 2 ∷ float 3 ∷ float 4 ∷ float 5 ∷ []) (float 3 ∷ []) (float 7) (float 20) 1 ≡ record { first = float 4; second = float 11 })
 
 parts : Parts
 unfolding columnsOf rowsOf lessOf backwardOf grown every sqrtOf rootOf isqrt ofBits ofInt round sub mul div lt
-parts = (refl, refl, refl, refl, refl, refl, refl, refl, refl, refl, refl, refl, refl, refl)
+parts = (refl, refl, refl, refl, refl, refl, refl, refl, refl, refl, refl, refl, refl)
 
 -- products are subtracted one by one by rising index: 2^53 + 2 less 1 is a tie, which goes to 2^53, and 1 less is 2^53 - 1; both at once would leave 2^53
 one-by-one : lessOf 2 (λ k. float 1) (λ k. float 1) (float 9007199254740994) ≡ float 9007199254740991

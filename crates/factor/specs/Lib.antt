@@ -1,4 +1,3 @@
 pub mod Cholesky
 pub mod Solve
-pub mod SolveParts
 pub mod Triangle

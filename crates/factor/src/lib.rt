@@ -5,7 +5,6 @@ ghost use lib.ListN.{getD, take};
 ghost use lib.Ieee.{nan, binary64, div};
 ghost use Rattle.arith.specs.Lists.{padded};
 ghost use Rattle.factor.specs.Triangle.{at, entry, lessOf};
-ghost use Rattle.factor.specs.SolveParts.{pairOf};
 ghost use Rattle.factor.specs.Solve.{forwardAt, forwardOf, backwardOf, solveOf};
 
 pub mod decompose;
@@ -22,12 +21,6 @@ pub struct Factor {
 pub struct Solved {
     pub number: u64,
     pub x: [f64; 100],
-}
-
-// What is left of two right-hand sides.
-pub struct Pair {
-    pub first: f64,
-    pub second: f64,
 }
 
 // Where row i, column k of a packed triangle lies.
@@ -53,47 +46,16 @@ fn next(l: &[f64; 5050], b: &[f64; 100], z: &[f64; 100], i: usize) -> f64
     s / l[p + i]
 }
 
-// What is left of the right-hand sides first and second of the rows i and i + 1, less the products before column i.
-// The two subtractions of a turn do not wait for each other.
-fn two_rows(l: &[f64; 5050], z: &[f64; 100], first: f64, second: f64, i: usize) -> Pair
-    requires { ⌜ i + 1 < 100 ⌝ }
-    ensures { λ r. ⌜ r ≡ pairOf (now (l .entry)) (now (z .entry)) first second i ⌝ }
-{
-    let p = place(i, 0);
-    let q = place(i + 1, 0);
-    let mut s = first;
-    let mut t = second;
-    let mut k = 0;
-    while k < i {
-        s = s - l[p + k] * z[k];
-        t = t - l[q + k] * z[k];
-        k += 1;
-    }
-    Pair {
-        first: s,
-        second: t,
-    }
-}
-
-// z with L z = b, behind it zeros: two rows at a time, and a last one alone.
+// z with L z = b, behind it zeros.
 fn forward(l: &[f64; 5050], b: &[f64; 100], n: usize) -> [f64; 100]
     requires { ⌜ n ≤ 100 ⌝ }
     ensures { λ r. ⌜ r ≡ padded 100 (forwardOf (now (l .entry)) (now (b .entry)) n) ⌝ }
 {
     let mut z = [0.0; 100];
     let mut i = 0;
-    while i + 1 < n {
-        let d = place(i, i);
-        let c = place(i + 1, i);
-        let e = place(i + 1, i + 1);
-        let rest = two_rows(l, &z, b[i], b[i + 1], i);
-        let u = rest.first / l[d];
-        z[i] = u;
-        z[i + 1] = (rest.second - l[c] * u) / l[e];
-        i += 2;
-    }
-    if i < n {
+    while i < n {
         z[i] = next(l, b, &z, i);
+        i += 1;
     }
     z
 }
