@@ -189,7 +189,7 @@ pub(crate) fn predict(args: &[u64], results: &mut Results) -> Reply
     let m = f.model;
     let xs = floats(args);
     let end = args.len();
-    let r = search::predict(m, &xs[values..end]);
+    let r = prediction::predict(m, &xs[values..end]);
     if r.number != 0 {
         return Reply::Refused(r.number);
     }

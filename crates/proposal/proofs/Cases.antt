@@ -29,7 +29,7 @@ use Rattle.common.specs.Grid.{intGrid}
 use Rattle.common.specs.Random.{sampleRandomOf, randomOf, intRandom, linearIntRandom, categoricalRandom, fromWhole}
 use Rattle.gp_model.specs.Fit.{fitDomain, fittedOf, fitOf}
 use Rattle.gp_model.specs.Kernels.{covarianceOf, similarityOf}
-use Rattle.search.specs.Predict.{countsFit}
+use Rattle.prediction.specs.Predict.{countsFit}
 use Rattle.search.specs.Search.{advanceOf, optimizeAcquisitionOf, searchDomain}
 use Rattle.scaling.specs.Scaling.{fromNormalizedOf, toNormalizedOf}
 use Rattle.gp_model.specs.Statistics.{allWithin, lengthscaleOf, meanOf, varianceOf}

@@ -21,7 +21,7 @@ use Rattle.gp_model.specs.declared.Fit.{Fit}
 use Rattle.gp_model.specs.Fit.{fitDomain, refusedOf, modelOf, factoredOf, fittedOf, fitOf}
 use Rattle.gp_model.specs.Kernels.{kernelMatrixOf}
 use Rattle.gp_model.specs.Statistics.{lengthscalesOf}
-use Rattle.search.specs.Predict.{countsFit}
+use Rattle.prediction.specs.Predict.{countsFit}
 use Rattle.search.specs.Search.{searchDomain}
 use Rattle.search.proofs.Earliest.{search-earliest}
 use Rattle.dimensions.specs.declared.DimensionInfo.{DimensionInfo}

@@ -63,7 +63,7 @@ fn is_same(a: [f64; 20], b: [f64; 20]) -> bool {
 fn score(m: Model, x: [f64; 20], d: usize) -> f64
     requires { ⌜ d ≤ 20 ⌝ }
 {
-    let p = search::predict(m, &x[0..d]);
+    let p = prediction::predict(m, &x[0..d]);
     acquisition::expected_improvement(p.mean, p.std, m.f_best)
 }
 

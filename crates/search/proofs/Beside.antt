@@ -1,4 +1,4 @@
--- Eight candidates side by side are eight candidates one after the other. Assumes nothing.
+-- Up to eight candidates side by side are as many one after the other. Assumes nothing.
 use mathlib.Core.Path.{_≡_, sym, ap, _∙_}
 use mathlib.Core.List.{List, []}
 use Prim.Native.Nat.{ℕ, zero, suc, _+_, _*_, _≤_, _<_}
@@ -20,7 +20,7 @@ use Rattle.gp_model.specs.declared.Model.{Model}
 use Rattle.search.specs.declared.Search.{Search}
 use Rattle.search.specs.declared.Starts.{Starts}
 use Rattle.search.specs.Eights.{Words, startsOf, columnOf, pointsOf, keptEachOf}
-use Rattle.search.specs.Search.{pointOf, scoreOf, candidateOf, advanceOf}
+use Rattle.search.specs.Search.{pointOf, scoreOf, advanceOf}
 
 -- the word after one point more
 pub word-after : (p d w : ℕ) → movedOf d (movedOf (p * d) w) ≡ movedOf (suc p * d) w
@@ -70,28 +70,20 @@ unfolding advanceOf
 advance-add m i zero s = let e : i + 0 ≡ i = omega arith in rw e
 advance-add m i (suc k) s = let e : i + suc k ≡ suc (i + k) = omega arith in rw (e, advance-add m i k s)
 
--- one candidate more
-pub advance-one : (m : Model) (i k : ℕ) (s t u : Search) → k ≡ suc i → t ≡ advanceOf m i s → u ≡ candidateOf m t → u ≡ advanceOf m k s
-unfolding advanceOf
-advance-one m i k s t u h e f = rw (h, f, e)
-
-pub candidate-nonzero : (m : Model) (t u : Search) → u ≡ candidateOf m t → Nonzero (t .word) → Nonzero (u .word)
-candidate-nonzero m t u e h = rw e (moved-nonzero (m .d) (t .word) h)
-
--- ---- eight candidates
+-- ---- at most eight candidates
 pub starts-at : (d w : ℕ) (t : Starts) → t ≡ startsOf d w → (p : ℕ) → p < 8 → getD (t .words) p 0 ≡ movedOf (p * d) w
 starts-at d w t e p g = ap (λ (x : Starts). getD (x .words) p 0) e ∙ grown-read (λ xs q. movedOf (q * d) w) 8 p 0 g
 
 pub starts-words : (d w : ℕ) (t : Starts) → t ≡ startsOf d w → Nonzero w → Words (t .words)
 starts-words d w t e h p g = rw (starts-at d w t e p g) (moved-nonzero (p * d) w h)
 
-pub eight-advance : (m : Model) (s : Search) (t : Starts) (c : List (List Float)) (ei : List Float) (b : Search) → t ≡ startsOf (m .d) (s .word) → c ≡ pointsOf (m .d) (t .words) → ei ≡ eightOf (λ p. scoreOf m (laneOf c (m .d) p)) → b ≡ keptEachOf (m .d) (t .words) ei 8 s
-    → record { word = t .next; «best_ei» = b .«best_ei»; «best_x» = b .«best_x» } ≡ advanceOf m 8 s
-eight-advance m s t c ei b et ec ee eb =
-    let w : t .next ≡ movedOf (8 * m .d) (s .word) = ap (λ (x : Starts). x .next) et in
+-- the first k of eight candidates, with the word after them
+pub some-advance : (m : Model) (s : Search) (t : Starts) (c : List (List Float)) (ei : List Float) (b : Search) (k w : ℕ) → k ≤ 8 → w ≡ movedOf (k * m .d) (s .word) → t ≡ startsOf (m .d) (s .word) → c ≡ pointsOf (m .d) (t .words) → ei ≡ eightOf (λ p. scoreOf m (laneOf c (m .d) p)) → b ≡ keptEachOf (m .d) (t .words) ei k s
+    → record { word = w; «best_ei» = b .«best_ei»; «best_x» = b .«best_x» } ≡ advanceOf m k s
+some-advance m s t c ei b k w h ew et ec ee eb =
     let score : (p : ℕ) → p < 8 → getD ei p nan ≡ scoreOf m (pointOf (m .d) (getD (t .words) p 0)) =
     (λ p g. eight-at (λ q. scoreOf m (laneOf c (m .d) q)) ee p g ∙ ap (λ (q : List (List Float)). scoreOf m (laneOf q (m .d) p)) ec ∙ ap (scoreOf m) (point-lane (m .d) (t .words) p g)) in
-    rw (w, eb) (sym (kept-advance m s (t .words) ei (starts-at (m .d) (s .word) t et) score 8 (omega arith)))
+    rw (ew, eb) (sym (kept-advance m s (t .words) ei (starts-at (m .d) (s .word) t et) score k h))
 
 pub advance-nonzero : (m : Model) (k : ℕ) (s : Search) → Nonzero (s .word) → Nonzero (advanceOf m k s .word)
 unfolding advanceOf

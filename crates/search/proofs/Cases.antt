@@ -24,22 +24,8 @@ use Rattle.gp_model.specs.Fit.{fitDomain, fittedOf, fitOf}
 use Rattle.gp_model.specs.Kernels.{covarianceOf, similarityOf}
 use Rattle.gp_model.specs.Statistics.{allWithin, lengthscaleOf, meanOf, standardOf, valueDeviationOf, varianceOf}
 use Rattle.gp_model.proofs.Cases.{float, half, one, two, word}
-use Rattle.search.specs.Predict.{countsFit, posteriorMeanOf, posteriorStdOf, predictOf}
+use Rattle.prediction.specs.Predict.{countsFit, posteriorMeanOf, posteriorStdOf}
 use Rattle.search.specs.Search.{advanceOf, optimizeAcquisitionOf, scoreOf, searchDomain, pointOf, startOf}
-
--- ---- predictions at 1, by the models of gp_model/proofs/Cases
-abbrev Predicted : Type 0
-Predicted =
-    (predictOf (two .model) (float 1 ∷ []) .number ≡ 0)
-    × (toBits binary64 (predictOf (two .model) (float 1 ∷ []) .mean) ≡ 0x3fd4f138edc7df9a)
-    × (toBits binary64 (predictOf (two .model) (float 1 ∷ []) .std) ≡ 0x3fe6929eda77b03f)
-    × (predictOf (one .model) (float 1 ∷ []) .std ≡ float 1)
-    -- a point of two columns
-    × (predictOf (two .model) (float 1 ∷ float 1 ∷ []) .number ≡ 11)
-
-predicted : Predicted
-unfolding predictOf countsFit posteriorMeanOf posteriorStdOf fitOf fitDomain fittedOf allWithin every covarianceOf similarityOf lengthscaleOf varianceOf meanOf valueDeviationOf standardOf choleskyOf columnsOf rowsOf lessOf grown solveOf backwardOf matern52Of scaledRootOf decayOf sumOver expOf hornerOf reducedOf scaledOf wholeOf nearestOf roundOf sqrtOf rootOf isqrt ofBits toBits round add sub mul div neg lt le isNan ofInt
-predicted = (refl, refl, refl, refl, refl)
 
 -- ---- searches
 abbrev Found : Type 0

@@ -22,7 +22,7 @@ use Rattle.rng_util.proofs.Stream.{moved-add, stream-at}
 use Rattle.gp_model.specs.declared.Model.{Model}
 use Rattle.search.specs.declared.Search.{Search}
 use Rattle.search.specs.Earliest.{drawnOf, Earliest}
-use Rattle.search.specs.Predict.{posteriorAt}
+use Rattle.prediction.specs.Predict.{posteriorAt}
 use Rattle.search.specs.Search.{pointOf, scoreOf, startOf, candidateOf, advanceOf, foundOf, searchDomain, optimizeAcquisitionOf}
 use Rattle.search.proofs.Domain.{search-columns}
 

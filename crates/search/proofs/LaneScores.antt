@@ -25,7 +25,7 @@ use Rattle.lanes.specs.Sums.{dotLanesOf, dotEachOf}
 use Rattle.lane_kernels.proofs.KernelRow.{sum-same}
 use Rattle.lanes.proofs.Rows.{eight-at, eight-same, lanes-at, row-at, row-past}
 use Rattle.gp_model.specs.Kernels.{rowOf, similarityOf}
-use Rattle.search.specs.Predict.{kernelVectorOf, posteriorMeanOf, posteriorStdOf}
+use Rattle.prediction.specs.Predict.{kernelVectorOf, posteriorMeanOf, posteriorStdOf}
 use Rattle.search.specs.Search.{partsOf, scoreOf}
 
 -- a dot product by its terms

@@ -1,4 +1,3 @@
 pub mod Earliest
 pub mod Eights
-pub mod Predict
 pub mod Search

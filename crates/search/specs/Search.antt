@@ -14,7 +14,7 @@ use Rattle.search.specs.declared.Candidate.{Candidate}
 use Rattle.gp_model.specs.declared.Model.{Model}
 use Rattle.search.specs.declared.Search.{Search}
 use Rattle.search.specs.declared.Searched.{Searched}
-use Rattle.search.specs.Predict.{posteriorAt, countsFit}
+use Rattle.prediction.specs.Predict.{posteriorAt, countsFit}
 
 -- the next d words as unit floats
 abbrev pub pointOf : ℕ → ℕ → List Float

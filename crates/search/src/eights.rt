@@ -1,4 +1,4 @@
-// Eight candidates of a search at a time, side by side: each float is the one that a candidate alone would have.
+// Up to eight candidates of a search at a time, side by side: each float is the one that a candidate alone would have.
 ghost use mathlib.Core.Path.{_≡_};
 ghost use Prim.Native.Nat.{ℕ, _*_, _≤_, _<_};
 ghost use lib.IntN.{pos};
@@ -121,22 +121,22 @@ fn kept(s: Search, word: u64, ei: f64, d: usize) -> Search
     s
 }
 
-// Eight points, one after the other.
-fn kept_each(start: Search, words: &[u64; 8], ei: &[f64; 8], d: usize) -> Search
-    requires { ⌜ (d ≤ 20) × Words (now words) ⌝ }
-    ensures { λ r. ⌜ r ≡ keptEachOf d (now (words .entry)) (now (ei .entry)) 8 start ⌝ }
+// The first k of eight points, one after the other.
+fn kept_each(start: Search, words: &[u64; 8], ei: &[f64; 8], d: usize, k: usize) -> Search
+    requires { ⌜ (d ≤ 20) × Words (now words) × (k ≤ 8) ⌝ }
+    ensures { λ r. ⌜ r ≡ keptEachOf d (now (words .entry)) (now (ei .entry)) k start ⌝ }
 {
     let mut s = start;
     let mut p = 0;
-    while p < 8 {
+    while p < k {
         s = kept(s, words[p], ei[p], d);
         p += 1;
     }
     s
 }
 
-// Eight candidates more.
-pub(crate) fn eight_candidates<'a>(
+// At most eight candidates more: eight are scored, and the first k are compared.
+pub(crate) fn some_candidates<'a>(
     x_train: &'a [f64],
     lengthscales: &'a [f64],
     cholesky: &'a [f64; 5050],
@@ -145,16 +145,25 @@ pub(crate) fn eight_candidates<'a>(
     n: usize,
     d: usize,
     s: Search,
+    k: usize,
 ) -> Search
-    requires { ⌜ (n ≤ 100) × (d ≤ 20) × (n * d ≤ length (now «x_train»)) × (d ≤ length (now lengthscales)) × (n ≤ length (now alpha)) × Nonzero (s .word) ⌝ }
-    ensures { λ r. ⌜ r ≡ advanceOf (partsOf (now («x_train» .entry)) (now (lengthscales .entry)) (now (cholesky .entry)) (now (alpha .entry)) «f_best» n d) 8 s ⌝ }
+    requires { ⌜ (n ≤ 100) × (d ≤ 20) × (n * d ≤ length (now «x_train»)) × (d ≤ length (now lengthscales)) × (n ≤ length (now alpha)) × Nonzero (s .word) × (k ≤ 8) ⌝ }
+    ensures { λ r. ⌜ r ≡ advanceOf (partsOf (now («x_train» .entry)) (now (lengthscales .entry)) (now (cholesky .entry)) (now (alpha .entry)) «f_best» n d) k s ⌝ }
 {
     let drawn = starts(s.word, d);
     let words = drawn.words;
     let c = points(&words, d);
     let ei = scores(x_train, lengthscales, cholesky, alpha, f_best, n, d, &c);
-    let best = kept_each(s, &words, &ei, d);
+    let best = kept_each(s, &words, &ei, d, k);
     let best_x = best.best_x;
+    if k < 8 {
+        let next = words[k];
+        return Search {
+            word: next,
+            best_ei: best.best_ei,
+            best_x,
+        };
+    }
     Search {
         word: drawn.next,
         best_ei: best.best_ei,

@@ -1,24 +1,9 @@
-// What gp.rs does with a model: its prediction, and the search for the next point.
+// What gp.rs does with a model: the search for the next point.
 pub mod eights;
-pub mod predicting;
 pub mod searching;
 
-pub use predicting::predict;
 pub use searching::draw_point;
 pub use searching::optimize_acquisition;
-
-// The mean and the deviation at a point.
-pub struct Posterior {
-    pub mean: f64,
-    pub std: f64,
-}
-
-// A prediction: number is 0, or 11 with zeros.
-pub struct Prediction {
-    pub number: u64,
-    pub mean: f64,
-    pub std: f64,
-}
 
 // What a search found: number is 0, or 11 with zeros and the word as it was.
 pub struct Searched {

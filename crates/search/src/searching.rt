@@ -7,12 +7,11 @@ ghost use Prim.Native.Nat.{_*_, _≤_, _<_};
 ghost use Rattle.arith.specs.Lists.{padded};
 ghost use Rattle.rng_util.proofs.Nonzero.{Nonzero};
 ghost use Rattle.search.specs.Earliest.{Earliest};
-ghost use Rattle.search.specs.Search.{drawOf, drawPointOf, partsOf, scoreOf, candidateOf, advanceOf, searchDomain, optimizeAcquisitionOf};
+ghost use Rattle.search.specs.Search.{drawOf, drawPointOf, partsOf, advanceOf, searchDomain, optimizeAcquisitionOf};
 use crate::Candidate;
 use crate::Search;
 use crate::Searched;
 use crate::eights;
-use crate::predicting;
 use gp_model::Model;
 
 // The next d words as unit floats, and the word after them.
@@ -54,66 +53,18 @@ pub fn draw_point(d: usize, word: u64) -> Searched
     }
 }
 
-// The expected improvement at a point.
-fn score<'a, 'b>(
-    x_train: &'a [f64],
-    lengthscales: &'a [f64],
-    cholesky: &'a [f64; 5050],
-    alpha: &'a [f64],
-    f_best: f64,
-    n: usize,
-    d: usize,
-    p: &'b [f64],
-) -> f64
-    requires { ⌜ (n ≤ 100) × (d ≤ 20) × (n * d ≤ length (now «x_train»)) × (d ≤ length (now lengthscales)) × (n ≤ length (now alpha)) × (length (now p) ≡ d) ⌝ }
-    ensures { λ r. ⌜ r ≡ scoreOf (partsOf (now («x_train» .entry)) (now (lengthscales .entry)) (now (cholesky .entry)) (now (alpha .entry)) «f_best» n d) (now (p .entry)) ⌝ }
+// How many candidates the next turn takes of those left: at most eight.
+fn turn(left: u64) -> usize
+    requires { ⌜ 1 ≤ left ⌝ }
+    ensures { λ r. ⌜ (1 ≤ r) × (r ≤ 8) × (r ≤ left) ⌝ }
 {
-    let at = predicting::posterior(x_train, lengthscales, cholesky, alpha, n, d, p);
-    acquisition::expected_improvement(at.mean, at.std, f_best)
+    if left < 8 {
+        return left as usize;
+    }
+    8
 }
 
-// One candidate more: it is kept where its score is above the best one.
-fn candidate<'a>(
-    x_train: &'a [f64],
-    lengthscales: &'a [f64],
-    cholesky: &'a [f64; 5050],
-    alpha: &'a [f64],
-    f_best: f64,
-    n: usize,
-    d: usize,
-    s: Search,
-) -> Search
-    requires { ⌜ (n ≤ 100) × (d ≤ 20) × (n * d ≤ length (now «x_train»)) × (d ≤ length (now lengthscales)) × (n ≤ length (now alpha)) × (0 < s .word) ⌝ }
-    ensures { λ r. ⌜ r ≡ candidateOf (partsOf (now («x_train» .entry)) (now (lengthscales .entry)) (now (cholesky .entry)) (now (alpha .entry)) «f_best» n d) s ⌝ }
-{
-    let drawn = draw(s.word, d);
-    let x = drawn.x;
-    let ei = score(
-        x_train,
-        lengthscales,
-        cholesky,
-        alpha,
-        f_best,
-        n,
-        d,
-        &x[0..d],
-    );
-    if ei > s.best_ei {
-        return Search {
-            word: drawn.next,
-            best_ei: ei,
-            best_x: x,
-        };
-    }
-    let best_x = s.best_x;
-    Search {
-        word: drawn.next,
-        best_ei: s.best_ei,
-        best_x,
-    }
-}
-
-// That many candidates more: eight at a time, and the rest one by one.
+// That many candidates more, at most eight at a time.
 fn advance<'a>(
     x_train: &'a [f64],
     lengthscales: &'a [f64],
@@ -130,13 +81,10 @@ fn advance<'a>(
 {
     let mut s = start;
     let mut i = 0;
-    while candidates - i >= 8 {
-        s = eights::eight_candidates(x_train, lengthscales, cholesky, alpha, f_best, n, d, s);
-        i += 8;
-    }
     while i < candidates {
-        s = candidate(x_train, lengthscales, cholesky, alpha, f_best, n, d, s);
-        i += 1;
+        let k = turn(candidates - i);
+        s = eights::some_candidates(x_train, lengthscales, cholesky, alpha, f_best, n, d, s, k);
+        i += k as u64;
     }
     s
 }
@@ -162,7 +110,7 @@ pub fn optimize_acquisition(m: Model, n_dims: usize, n_candidates: u64, word: u6
 {
     let n = m.n;
     let d = m.d;
-    if predicting::counts_fit(n, d) {
+    if prediction::counts_fit(n, d) {
         if n_dims == d {
             if word != 0 {
                 let best_x = halves(d);

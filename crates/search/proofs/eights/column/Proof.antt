@@ -9,19 +9,8 @@ use Rattle.arith.specs.Lists.{grown, listOf, filled, padded}
 use Rattle.arith.proofs.Lists.{grown-set, grown-filled-set, eight-filled}
 use Rattle.rng_util.specs.Draws.{unitDrawOf}
 use borrow.Author.Needs.{needs}
-use Prim.Native.Nat.{_-_, _≤_}
-use mathlib.Core.Path.{_≡_, refl}
-use native.Mathlib.Numerals.{add-one}
-use native.Mathlib.Omega.{arith}
-use lib.ListN.{getD}
-use lib.Ieee.{ofBits}
-use Rattle.arith.specs.Lists.{grown, listOf, filled, padded}
-use Rattle.arith.proofs.Lists.{grown-set, grown-filled-set}
-use Rattle.rng_util.specs.Draws.{unitDrawOf}
 use Rattle.search.proofs.eights.column.Statement.{statement}
 use Rattle.search.proofs.eights.column.Tie as tie
-
--- `search::eights::column` meets its contract: before each turn the arrays hold the p draws passed. Assumes nothing.
 
 abbrev Inv-loop : tie.InvT-loop
 Inv-loop words values₀ next₀ p₀ values next p = (p ≤ 8) × (values ≡ padded 8 (listOf (λ p. unitDrawOf (getD words p 0) .value) p)) × (next ≡ filled 0 8 (listOf (λ p. unitDrawOf (getD words p 0) .next) p))

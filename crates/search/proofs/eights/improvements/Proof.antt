@@ -13,22 +13,8 @@ use Rattle.arith.specs.Outcome.{valueOf}
 use Rattle.root.specs.Sqrt.{sqrtOf}
 use Rattle.arith.proofs.Lists.{grown-set, eight-filled}
 use borrow.Author.Needs.{needs}
-use Prim.Native.Nat.{_-_, _≤_}
-use mathlib.Core.Path.{_≡_, refl, ap}
-use native.Mathlib.Numerals.{add-one}
-use native.Mathlib.Omega.{arith}
-use lib.IntN.{pos}
-use lib.ListN.{getD}
-use lib.Ieee.{nan, binary64, sub, ofBits, ofInt}
-use Rattle.acquisition.specs.Improvement.{expectedImprovementOf}
-use Rattle.arith.specs.Choice.{positivePart}
-use Rattle.arith.specs.Lists.{grown, listOf, padded}
-use Rattle.arith.specs.Outcome.{valueOf}
-use Rattle.arith.proofs.Lists.{grown-set}
 use Rattle.search.proofs.eights.improvements.Statement.{statement}
 use Rattle.search.proofs.eights.improvements.Tie as tie
-
--- `search::eights::improvements` meets its contract: before each turn the array holds the lanes passed. Assumes nothing.
 
 abbrev Inv-loop : tie.InvT-loop
 Inv-loop means products f-best out₀ p₀ out p = (p ≤ 8) × (out ≡ padded 8 (listOf (λ p. valueOf (expectedImprovementOf (getD means p nan) (sqrtOf (positivePart (sub binary64 (ofInt binary64 (pos 1)) (getD products p nan)))) f-best)) p))

@@ -9,10 +9,10 @@ use Rattle.search.proofs.eights.kept_each.Statement.{statement}
 use Rattle.search.proofs.eights.kept_each.Tie as tie
 
 abbrev Inv-loop : tie.InvT-loop
-Inv-loop words ei d s₀ p₀ s p = (p ≤ 8) × (s ≡ keptEachOf d words ei p s₀)
+Inv-loop words ei d k s₀ p₀ s p = (p ≤ k) × (s ≡ keptEachOf d words ei p s₀)
 
 abbrev μ-loop : tie.MeasureT-loop
-μ-loop words ei d s₀ p₀ s p = 8 - p
+μ-loop words ei d k s₀ p₀ s p = k - p
 
 loop-holds : tie.Need-loop-holds Inv-loop μ-loop
 unfolding keptEachOf
@@ -44,7 +44,7 @@ unfolding keptEachOf
 loop-again c = let l = c .before .before .before .before .loop in (search needs, rw (c .kept .ensures, l .inv .1, add-one (l .p)))
 
 returns : tie.Need-returns Inv-loop μ-loop
-returns c = let e : c .before .loop .p ≡ 8 = omega arith in rw (c .before .loop .inv .1, e)
+returns c = let e : c .before .loop .p ≡ c .before .before .args .k = omega arith in rw (c .before .loop .inv .1, e)
 
 pub kept-each-spec : {M : Type 1} → statement M
 kept-each-spec =

@@ -14,7 +14,7 @@ use Rattle.search.specs.declared.Search.{Search}
 use Rattle.search.specs.declared.Searched.{Searched}
 use Rattle.search.specs.Earliest.{Earliest}
 use Rattle.search.specs.Search.{startOf, advanceOf, foundOf, searchDomain, optimizeAcquisitionOf}
-use Rattle.search.proofs.Domain.{model-counts}
+use Rattle.prediction.proofs.Domain.{model-counts}
 use Rattle.search.proofs.Earliest.{search-earliest}
 use Rattle.gp_model.proofs.Table.{table-small}
 use borrow.Author.Needs.{needs}

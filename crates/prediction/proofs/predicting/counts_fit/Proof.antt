@@ -1,8 +1,8 @@
--- `search::predicting::counts_fit` meets its contract, test by test. Assumes nothing.
+-- `prediction::predicting::counts_fit` meets its contract, test by test. Assumes nothing.
 use borrow.Author.Tests.{le-leb, lt-leb}
-use Rattle.search.specs.Predict.{countsFit}
-use Rattle.search.proofs.predicting.counts_fit.Statement.{statement}
-use Rattle.search.proofs.predicting.counts_fit.Tie as tie
+use Rattle.prediction.specs.Predict.{countsFit}
+use Rattle.prediction.proofs.predicting.counts_fit.Statement.{statement}
+use Rattle.prediction.proofs.predicting.counts_fit.Tie as tie
 
 returns : tie.Need-returns
 unfolding countsFit

@@ -1,4 +1,4 @@
--- `search::predicting::dot` meets its contract: lists of one length are never refused. Assumes nothing.
+-- `prediction::predicting::dot` meets its contract: lists of one length are never refused. Assumes nothing.
 use Prim.Native.Nat.{ℕ, _-_, _≤_}
 use mathlib.Core.Path.{_≡_, sym, ap, _∙_}
 use mathlib.Core.List.{List}
@@ -12,8 +12,8 @@ use Rattle.arith.specs.Outcome.{valueOf}
 use Rattle.arith.specs.Sums.{products, dotOf}
 use Rattle.arith.proofs.Accepted.{never-refused}
 use borrow.Author.Needs.{needs}
-use Rattle.search.proofs.predicting.dot.Statement.{statement}
-use Rattle.search.proofs.predicting.dot.Tie as tie
+use Rattle.prediction.proofs.predicting.dot.Statement.{statement}
+use Rattle.prediction.proofs.predicting.dot.Tie as tie
 
 sub-dot : tie.Need-sub-dot
 sub-dot c = search needs

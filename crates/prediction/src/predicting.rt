@@ -4,7 +4,7 @@ ghost use Prim.Native.Nat.{_*_, _≤_};
 ghost use lib.ListN.{length, take};
 ghost use Rattle.arith.specs.Lists.{padded};
 ghost use Rattle.arith.specs.Sums.{products};
-ghost use Rattle.search.specs.Predict.{kernelVectorOf, posteriorOf, countsFit, predictOf};
+ghost use Rattle.prediction.specs.Predict.{kernelVectorOf, posteriorOf, countsFit, predictOf};
 use crate::Posterior;
 use crate::Prediction;
 use arith::Outcome;
@@ -38,7 +38,7 @@ fn dot(a: &[f64], b: &[f64], n: usize) -> f64
 }
 
 // The posterior of a model's parts at a point.
-pub(crate) fn posterior<'a, 'b>(
+fn posterior<'a, 'b>(
     x_train: &'a [f64],
     lengthscales: &'a [f64],
     cholesky: &'a [f64; 5050],
@@ -60,7 +60,7 @@ pub(crate) fn posterior<'a, 'b>(
 }
 
 // Whether a model has 1 to 100 rows of 1 to 20 columns.
-pub(crate) fn counts_fit(n: usize, d: usize) -> bool
+pub fn counts_fit(n: usize, d: usize) -> bool
     ensures { λ r. ⌜ r ≡ countsFit n d ⌝ }
 {
     if n < 1 {

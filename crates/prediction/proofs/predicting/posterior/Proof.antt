@@ -1,4 +1,4 @@
--- `search::predicting::posterior` meets its contract. Assumes nothing.
+-- `prediction::predicting::posterior` meets its contract. Assumes nothing.
 use Prim.Native.Nat.{ℕ, _-_, _≤_}
 use mathlib.Core.Path.{_≡_, ap, _∙_}
 use mathlib.Core.List.{List}
@@ -9,10 +9,10 @@ use Rattle.factor.proofs.Back.{solve-length}
 use Rattle.gp_model.specs.Kernels.{rowOf, similarityOf}
 use lib.ListN.{length, take, drop}
 use lib.Ieee.{Float, ofBits, ofInt}
-use Rattle.search.specs.Predict.{kernelVectorOf, posteriorMeanOf, posteriorStdOf}
+use Rattle.prediction.specs.Predict.{kernelVectorOf, posteriorMeanOf, posteriorStdOf}
 use borrow.Author.Needs.{needs}
-use Rattle.search.proofs.predicting.posterior.Statement.{statement}
-use Rattle.search.proofs.predicting.posterior.Tie as tie
+use Rattle.prediction.proofs.predicting.posterior.Statement.{statement}
+use Rattle.prediction.proofs.predicting.posterior.Tie as tie
 
 sub-kernel-vector : tie.Need-sub-kernel-vector
 sub-kernel-vector c = search needs

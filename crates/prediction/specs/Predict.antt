@@ -12,8 +12,8 @@ use Rattle.root.specs.Sqrt.{sqrtOf}
 use Rattle.arith.specs.Sums.{products}
 use Rattle.factor.specs.Solve.{solveOf}
 use Rattle.gp_model.specs.declared.Model.{Model}
-use Rattle.search.specs.declared.Posterior.{Posterior}
-use Rattle.search.specs.declared.Prediction.{Prediction}
+use Rattle.prediction.specs.declared.Posterior.{Posterior}
+use Rattle.prediction.specs.declared.Prediction.{Prediction}
 use Rattle.gp_model.specs.Kernels.{rowOf, similarityOf}
 use Rattle.gp_model.specs.Statistics.{allWithin}
 

@@ -1,15 +1,15 @@
--- `search::predicting::predict` meets its contract, by the tests. Assumes nothing.
+-- `prediction::predicting::predict` meets its contract, by the tests. Assumes nothing.
 use mathlib.Core.Path.{sym, ap, _∙_}
 use native.Mathlib.Omega.{arith}
 use borrow.Author.Tests.{eq-eqb, ne-eqb}
 use lib.Ieee.{ofBits}
-use Rattle.search.specs.declared.Posterior.{Posterior}
-use Rattle.search.specs.Predict.{predictOf}
-use Rattle.search.proofs.Domain.{model-counts}
+use Rattle.prediction.specs.declared.Posterior.{Posterior}
+use Rattle.prediction.specs.Predict.{predictOf}
+use Rattle.prediction.proofs.Domain.{model-counts}
 use Rattle.gp_model.proofs.Table.{table-small}
 use borrow.Author.Needs.{needs}
-use Rattle.search.proofs.predicting.predict.Statement.{statement}
-use Rattle.search.proofs.predicting.predict.Tie as tie
+use Rattle.prediction.proofs.predicting.predict.Statement.{statement}
+use Rattle.prediction.proofs.predicting.predict.Tie as tie
 
 counts-fit-requires : tie.Need-counts-fit-requires
 counts-fit-requires c κs = search needs

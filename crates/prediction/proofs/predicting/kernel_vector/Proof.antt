@@ -1,4 +1,4 @@
--- `search::predicting::kernel_vector` meets its contract: before each turn the array holds the rows passed. Assumes nothing.
+-- `prediction::predicting::kernel_vector` meets its contract: before each turn the array holds the rows passed. Assumes nothing.
 use Prim.Native.Nat.{_+_, _-_, _*_, _≤_}
 use mathlib.Core.Path.{_≡_, refl}
 use native.Mathlib.Numerals.{add-one}
@@ -8,10 +8,10 @@ use lib.Ieee.{ofBits}
 use Rattle.arith.specs.Lists.{grown, padded}
 use Rattle.arith.proofs.Lists.{grown-set, row-end}
 use Rattle.gp_model.specs.Kernels.{rowOf, similarityOf}
-use Rattle.search.specs.Predict.{kernelVectorOf}
+use Rattle.prediction.specs.Predict.{kernelVectorOf}
 use borrow.Author.Needs.{needs}
-use Rattle.search.proofs.predicting.kernel_vector.Statement.{statement}
-use Rattle.search.proofs.predicting.kernel_vector.Tie as tie
+use Rattle.prediction.proofs.predicting.kernel_vector.Statement.{statement}
+use Rattle.prediction.proofs.predicting.kernel_vector.Tie as tie
 
 abbrev Inv-loop : tie.InvT-loop
 Inv-loop x n d lengthscales p out₀ i₀ out i = (i ≤ n) × (out ≡ padded 100 (kernelVectorOf x i d lengthscales p))
