@@ -111,11 +111,11 @@ fn kept(s: Search, word: u64, ei: f64, d: usize) -> Search
 {
     if ei > s.best_ei {
         let drawn = searching::draw(word, d);
-        let best_x = drawn.x;
+        let x = drawn.x;
         return Search {
             word: s.word,
             best_ei: ei,
-            best_x,
+            best_x: x,
         };
     }
     s

@@ -1,7 +1,8 @@
 -- `search::eights::kept` meets its contract, by whether the point is kept. Assumes nothing.
-use mathlib.Core.Path.{_≡_}
+use mathlib.Core.Path.{_≡_, ap}
 use mathlib.Core.Bool.{true, false}
 use lib.Ieee.{lt}
+use Rattle.search.specs.declared.Candidate.{Candidate}
 use borrow.Author.Needs.{needs}
 use Rattle.search.proofs.eights.kept.Statement.{statement}
 use Rattle.search.proofs.eights.kept.Tie as tie
@@ -13,7 +14,7 @@ returns : tie.Need-returns
 returns c =
     let g = c .before .before .before .before .args in
     let t : lt (g .s .«best_ei») (g .ei) ≡ true = c .before .before .if1 .taken in
-    rw (c .before .draw .ensures, t)
+    rw t (ap (λ (x : Candidate). record { word = g .s .word; «best_ei» = g .ei; «best_x» = x .x }) (c .before .draw .ensures))
 
 returns-2 : tie.Need-returns-2
 returns-2 c =
