@@ -61,6 +61,13 @@ fn in_arithmetic(name: &[u8], args: &[u64], results: &mut Results) -> Reply
     if same(name, b"sqrt") {
         return arithmetic::sqrt(args, results);
     }
+    in_rounding(name, args, results)
+}
+
+// A leaf that rounds, or of a later group.
+fn in_rounding(name: &[u8], args: &[u64], results: &mut Results) -> Reply
+    ensures { λ r. ⌜ ResultsFit r ⌝ }
+{
     if same(name, b"round") {
         return arithmetic::round(args, results);
     }
@@ -105,7 +112,7 @@ fn in_common(name: &[u8], args: &[u64], results: &mut Results) -> Reply
     in_normal(name, args, results)
 }
 
-// A leaf of floats alone, or of a later group.
+// A leaf of the normal distribution, or of a later group.
 fn in_normal(name: &[u8], args: &[u64], results: &mut Results) -> Reply
     ensures { λ r. ⌜ ResultsFit r ⌝ }
 {
@@ -118,6 +125,13 @@ fn in_normal(name: &[u8], args: &[u64], results: &mut Results) -> Reply
     if same(name, b"expected_improvement") {
         return normal::expected_improvement(args, results);
     }
+    in_scaling(name, args, results)
+}
+
+// A leaf that scales, or of a later group.
+fn in_scaling(name: &[u8], args: &[u64], results: &mut Results) -> Reply
+    ensures { λ r. ⌜ ResultsFit r ⌝ }
+{
     if same(name, b"to_normalized") {
         return normal::to_normalized(args, results);
     }

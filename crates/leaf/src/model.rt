@@ -7,6 +7,8 @@ use crate::reply::Reply;
 use crate::reply::Results;
 use gp_model::Fit;
 use gp_model::Model;
+use prediction::Prediction;
+use search::Searched;
 
 // Where the rows of a fit's line end, and its values; `ok` where the line holds them.
 pub struct Parts {
@@ -164,6 +166,18 @@ pub(crate) fn fit_gp(args: &[u64], results: &mut Results) -> Reply
     put_model(m, results)
 }
 
+// The mean and the deviation, or the refusal's number.
+fn put_prediction(r: Prediction, results: &mut Results) -> Reply
+    ensures { λ r1. ⌜ ResultsFit r1 ⌝ }
+{
+    if r.number != 0 {
+        return Reply::Refused(r.number);
+    }
+    results[0] = arith::word_of_float(r.mean);
+    results[1] = arith::word_of_float(r.std);
+    Reply::Accepted(2)
+}
+
 pub(crate) fn predict(args: &[u64], results: &mut Results) -> Reply
     ensures { λ r. ⌜ ResultsFit r ⌝ }
 {
@@ -189,13 +203,22 @@ pub(crate) fn predict(args: &[u64], results: &mut Results) -> Reply
     let m = f.model;
     let xs = floats(args);
     let end = args.len();
-    let r = prediction::predict(m, &xs[values..end]);
+    put_prediction(prediction::predict(m, &xs[values..end]), results)
+}
+
+// The point found, of d coordinates, and the next word, or the refusal's number.
+fn put_point(r: Searched, d: usize, results: &mut Results) -> Reply
+    ensures { λ r1. ⌜ ResultsFit r1 ⌝ }
+{
     if r.number != 0 {
         return Reply::Refused(r.number);
     }
-    results[0] = arith::word_of_float(r.mean);
-    results[1] = arith::word_of_float(r.std);
-    Reply::Accepted(2)
+    if d > 20 {
+        return Reply::Unreadable;
+    }
+    put(&r.point, d, results, 0);
+    results[d] = r.next;
+    Reply::Accepted(d + 1)
 }
 
 pub(crate) fn optimize_acquisition(args: &[u64], results: &mut Results) -> Reply
@@ -223,13 +246,5 @@ pub(crate) fn optimize_acquisition(args: &[u64], results: &mut Results) -> Reply
     let m = f.model;
     let d = m.d;
     let r = search::optimize_acquisition(m, d, args[values], args[values + 1]);
-    if r.number != 0 {
-        return Reply::Refused(r.number);
-    }
-    if d > 20 {
-        return Reply::Unreadable;
-    }
-    put(&r.point, d, results, 0);
-    results[d] = r.next;
-    Reply::Accepted(d + 1)
+    put_point(r, d, results)
 }
