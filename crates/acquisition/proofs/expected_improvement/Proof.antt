@@ -1,4 +1,4 @@
--- `expected_improvement` meets its contract, by the deviation. Assumes nothing.
+-- `acquisition::expected_improvement` meets its contract, by the deviation. Assumes nothing.
 use mathlib.Core.Path.{sym}
 use Rattle.acquisition.specs.Improvement.{expectedImprovementOf}
 use borrow.Author.Needs.{needs}

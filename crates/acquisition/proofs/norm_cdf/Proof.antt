@@ -1,4 +1,4 @@
--- `norm_cdf` meets its contract, by the tests. Assumes nothing.
+-- `acquisition::norm_cdf` meets its contract, by the tests. Assumes nothing.
 use mathlib.Core.Path.{_≡_, sym}
 use mathlib.Core.Bool.{true}
 use lib.IntN.{pos, negsuc}

@@ -1,4 +1,4 @@
--- `polynomial` meets its contract. Assumes nothing.
+-- `acquisition::polynomial` meets its contract. Assumes nothing.
 use mathlib.Core.Path.{refl}
 use lib.Ieee.{ofBits}
 use Rattle.acquisition.specs.Normal.{polynomialOf}

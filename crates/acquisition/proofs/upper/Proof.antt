@@ -1,4 +1,4 @@
--- `upper` meets its contract. Assumes nothing.
+-- `acquisition::upper` meets its contract. Assumes nothing.
 use mathlib.Core.Path.{sym}
 use lib.Ieee.{ofBits, ofInt}
 use Rattle.acquisition.specs.Normal.{upperOf}

@@ -1,4 +1,4 @@
--- `arith::at_least` meets its contract. Assumes nothing.
+-- `arith::choice::at_least` meets its contract. Assumes nothing.
 use Rattle.arith.proofs.choice.at_least.Statement.{statement}
 use Rattle.arith.proofs.choice.at_least.Tie as tie
 

@@ -1,4 +1,4 @@
--- `arith::least` meets its contract: before each turn the best is the least of the values passed. Assumes nothing.
+-- `arith::choice::least` meets its contract: before each turn the best is the least of the values passed. Assumes nothing.
 use Prim.Native.Nat.{_≤_, _-_}
 use mathlib.Core.Path.{_≡_, refl}
 use native.Mathlib.Numerals.{add-one}

@@ -1,4 +1,4 @@
--- `arith::lesser` meets its contract. Assumes nothing.
+-- `arith::choice::lesser` meets its contract. Assumes nothing.
 use Rattle.arith.proofs.choice.lesser.Statement.{statement}
 use Rattle.arith.proofs.choice.lesser.Tie as tie
 

@@ -1,4 +1,4 @@
--- `arith::dot` meets its contract. Assumes nothing.
+-- `arith::sums::dot` meets its contract. Assumes nothing.
 use borrow.Author.Needs.{needs}
 use borrow.Author.Tests.{eq-eqb, ne-eqb}
 use Rattle.arith.proofs.sums.dot.Statement.{statement}

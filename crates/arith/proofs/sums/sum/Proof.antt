@@ -1,4 +1,4 @@
--- `arith::sum` meets its contract: before each turn the total is the sum of the values passed. Assumes nothing.
+-- `arith::sums::sum` meets its contract: before each turn the total is the sum of the values passed. Assumes nothing.
 use Prim.Native.Nat.{_≤_, _-_}
 use mathlib.Core.Path.{_≡_, refl}
 use native.Mathlib.Numerals.{add-one}

@@ -1,4 +1,4 @@
--- `words::float_of_int` meets its contract: what the library's function ensures. Assumes nothing.
+-- `arith::words::float_of_int` meets its contract: what the library's function ensures. Assumes nothing.
 use mathlib.Core.Path.{ap, _∙_}
 use lib.Ieee.{binary64, ofInt}
 use mir.Syntax.{w64}

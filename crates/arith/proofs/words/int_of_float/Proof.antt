@@ -1,4 +1,4 @@
--- `words::int_of_float` meets its contract: the definition by its cases, at each end and between them. Assumes nothing.
+-- `arith::words::int_of_float` meets its contract: the definition by its cases, at each end and between them. Assumes nothing.
 use mathlib.Core.Path.{_≡_, refl, sym, ap}
 use mathlib.Core.Logic.{inl, inr}
 use Prim.Native.Nat.{ℕ, _-_, _*_, _/_, _^_, _≤_, min}

@@ -1,4 +1,4 @@
--- `decoded` meets its contract, by the kind. Assumes nothing.
+-- `common::decode::decoded` meets its contract, by the kind. Assumes nothing.
 use mathlib.Core.Path.{subst, sym}
 use Rattle.common.specs.Decode.{decodedOf}
 use Rattle.common.specs.DecodeParts.{Decodable}

@@ -1,4 +1,4 @@
--- `float_decoded` meets its contract. Assumes nothing.
+-- `common::decode::float_decoded` meets its contract. Assumes nothing.
 use borrow.Author.Needs.{needs}
 use Rattle.common.proofs.decode.float_decoded.Statement.{statement}
 use Rattle.common.proofs.decode.float_decoded.Tie as tie

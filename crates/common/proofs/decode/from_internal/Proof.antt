@@ -1,4 +1,4 @@
--- `common::from_internal` meets its contract: what is inside decodes with no saturation (`Domain.antt`). Assumes nothing.
+-- `common::decode::from_internal` meets its contract: what is inside decodes with no saturation (`Domain.antt`). Assumes nothing.
 use mathlib.Core.Path.{_≡_, _∙_, sym, ap}
 use mathlib.Core.Bool.{Bool, true, false, cond}
 use borrow.Author.Tests.{not-true, not-false}

@@ -1,4 +1,4 @@
--- `int_decoded` meets its contract. Assumes nothing.
+-- `common::decode::int_decoded` meets its contract. Assumes nothing.
 use mathlib.Core.Path.{_∙_, ap, subst}
 use Rattle.distribution.specs.declared.ParamValue.{ParamValue}
 use Rattle.common.specs.Grid.{clampZ}

@@ -1,4 +1,4 @@
--- `is_inside` meets its contract. Assumes nothing.
+-- `common::decode::is_inside` meets its contract. Assumes nothing.
 use lib.Ieee.{ofBits, ofInt}
 use borrow.Author.Needs.{needs}
 use Rattle.common.proofs.decode.is_inside.Statement.{statement}

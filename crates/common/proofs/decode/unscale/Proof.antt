@@ -1,4 +1,4 @@
--- `unscale` meets its contract. Assumes nothing.
+-- `common::decode::unscale` meets its contract. Assumes nothing.
 use mathlib.Core.Path.{_∙_}
 use borrow.Author.Needs.{needs}
 use Rattle.common.proofs.decode.unscale.Statement.{statement}

@@ -1,4 +1,4 @@
--- `clamp` meets its contract. Assumes nothing.
+-- `common::grid::clamp` meets its contract. Assumes nothing.
 use borrow.Author.Needs.{needs}
 use Rattle.common.proofs.grid.clamp.Statement.{statement}
 use Rattle.common.proofs.grid.clamp.Tie as tie

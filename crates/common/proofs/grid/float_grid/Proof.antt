@@ -1,4 +1,4 @@
--- `float_grid` meets its contract. Assumes nothing.
+-- `common::grid::float_grid` meets its contract. Assumes nothing.
 use Rattle.common.specs.Grid.{floatGrid}
 use borrow.Author.Needs.{needs}
 use Rattle.common.proofs.grid.float_grid.Statement.{statement}

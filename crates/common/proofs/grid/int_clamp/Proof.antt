@@ -1,4 +1,4 @@
--- `int_clamp` meets its contract. Assumes nothing.
+-- `common::grid::int_clamp` meets its contract. Assumes nothing.
 use mathlib.Core.Path.{_∙_}
 use mir.Syntax.{w64}
 use mir.ValLaws.{toZ-ofZ}

@@ -1,4 +1,4 @@
--- `int_grid` meets its contract: nothing saturates. Assumes nothing.
+-- `common::grid::int_grid` meets its contract: nothing saturates. Assumes nothing.
 use mathlib.Core.Path.{_≡_, _∙_, sym, ap}
 use mathlib.Core.Bool.{true}
 use lib.Ieee.{binary64, sub, div, ofInt, toSigned}

@@ -1,4 +1,4 @@
--- `int_raised_to` meets its contract. Assumes nothing.
+-- `common::grid::int_raised_to` meets its contract. Assumes nothing.
 use mir.Syntax.{w64}
 use mir.ValLaws.{toZ-ofZ}
 use Rattle.common.proofs.grid.int_raised_to.Statement.{statement}

@@ -1,4 +1,4 @@
--- `lowered_to` meets its contract. Assumes nothing.
+-- `common::grid::lowered_to` meets its contract. Assumes nothing.
 use Rattle.common.proofs.grid.lowered_to.Statement.{statement}
 use Rattle.common.proofs.grid.lowered_to.Tie as tie
 

@@ -1,4 +1,4 @@
--- `raised_to` meets its contract. Assumes nothing.
+-- `common::grid::raised_to` meets its contract. Assumes nothing.
 use Rattle.common.proofs.grid.raised_to.Statement.{statement}
 use Rattle.common.proofs.grid.raised_to.Tie as tie
 

@@ -1,4 +1,4 @@
--- `categorical_random` meets its contract. Assumes nothing.
+-- `common::random::categorical_random` meets its contract. Assumes nothing.
 use mathlib.Core.Path.{_≡_, _∙_, sym, ap, subst}
 use Prim.Native.Nat.{_-_}
 use native.Mathlib.Omega.{arith}

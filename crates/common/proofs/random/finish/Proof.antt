@@ -1,4 +1,4 @@
--- `finish` meets its contract. Assumes nothing.
+-- `common::random::finish` meets its contract. Assumes nothing.
 use borrow.Author.Tests.{eq-eqb, ne-eqb}
 use native.Mathlib.Omega.{arith}
 use borrow.Author.Needs.{needs}

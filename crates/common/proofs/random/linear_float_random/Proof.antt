@@ -1,4 +1,4 @@
--- `linear_float_random` meets its contract. Assumes nothing.
+-- `common::random::linear_float_random` meets its contract. Assumes nothing.
 use mathlib.Core.Path.{_∙_, ap}
 use Rattle.distribution.specs.declared.ParamValue.{ParamValue}
 use Rattle.common.specs.Random.{linearFloatRandom, rangeOf}

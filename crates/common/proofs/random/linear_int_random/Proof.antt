@@ -1,4 +1,4 @@
--- `linear_int_random` meets its contract. Assumes nothing.
+-- `common::random::linear_int_random` meets its contract. Assumes nothing.
 use mathlib.Core.Path.{_∙_, ap}
 use mir.Syntax.{w64}
 use mir.ValLaws.{toZ-ofZ}

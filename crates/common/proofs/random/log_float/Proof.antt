@@ -1,4 +1,4 @@
--- `log_float` meets its contract. Assumes nothing.
+-- `common::random::log_float` meets its contract. Assumes nothing.
 use borrow.Author.Needs.{needs}
 use Rattle.common.proofs.random.log_float.Statement.{statement}
 use Rattle.common.proofs.random.log_float.Tie as tie

@@ -1,4 +1,4 @@
--- `log_float_random` meets its contract. Assumes nothing.
+-- `common::random::log_float_random` meets its contract. Assumes nothing.
 use mathlib.Core.Path.{_∙_, ap}
 use Rattle.distribution.specs.declared.Distribution.{Distribution}
 use Rattle.encoding.specs.Bounds.{endsOf}

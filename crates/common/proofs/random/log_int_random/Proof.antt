@@ -1,4 +1,4 @@
--- `log_int_random` meets its contract. Assumes nothing.
+-- `common::random::log_int_random` meets its contract. Assumes nothing.
 use mathlib.Core.Path.{_∙_, sym, ap, subst}
 use Rattle.distribution.specs.declared.Distribution.{Distribution}
 use Rattle.encoding.specs.Bounds.{endsOf}

@@ -1,4 +1,4 @@
--- `log_range` meets its contract. Assumes nothing.
+-- `common::random::log_range` meets its contract. Assumes nothing.
 use borrow.Author.Needs.{needs}
 use Rattle.common.proofs.random.log_range.Statement.{statement}
 use Rattle.common.proofs.random.log_range.Tie as tie

@@ -1,4 +1,4 @@
--- `random` meets its contract, by the kind. Assumes nothing.
+-- `common::random::random` meets its contract, by the kind. Assumes nothing.
 use mathlib.Core.Path.{_∙_, sym, ap, subst}
 use lib.Dec.{T}
 use Rattle.distribution.specs.Shape.{shapeOf}

@@ -1,4 +1,4 @@
--- `common::sample_random` meets its contract. Assumes nothing.
+-- `common::random::sample_random` meets its contract. Assumes nothing.
 use mathlib.Core.Path.{_∙_, sym}
 use borrow.Author.Tests.{not-true, not-false}
 use Rattle.arith.proofs.Tests.{taken}

@@ -1,4 +1,4 @@
--- `settle` meets its contract. Assumes nothing.
+-- `common::random::settle` meets its contract. Assumes nothing.
 use borrow.Author.Needs.{needs}
 use Rattle.common.proofs.random.settle.Statement.{statement}
 use Rattle.common.proofs.random.settle.Tie as tie

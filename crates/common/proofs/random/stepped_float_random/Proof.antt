@@ -1,4 +1,4 @@
--- `stepped_float_random` meets its contract. Assumes nothing.
+-- `common::random::stepped_float_random` meets its contract. Assumes nothing.
 use mathlib.Core.Path.{_∙_, ap}
 use lib.IntN.{pos}
 use lib.Ieee.{Float, binary64, add, sub, mul, div, ofInt, toSigned}

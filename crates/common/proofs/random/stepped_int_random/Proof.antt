@@ -1,4 +1,4 @@
--- `stepped_int_random` meets its contract: the steps drawn stay between the ends (`Steps.antt`). Assumes nothing.
+-- `common::random::stepped_int_random` meets its contract: the steps drawn stay between the ends (`Steps.antt`). Assumes nothing.
 use mathlib.Core.Path.{_≡_, _∙_, sym, ap, subst}
 use Prim.Native.Nat.{_<_}
 use lib.IntN.{ℤ, pos, _+ℤ_, _-ℤ_, _*ℤ_}

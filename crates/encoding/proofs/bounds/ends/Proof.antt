@@ -1,4 +1,4 @@
--- `ends` meets its contract, by the kind. Assumes nothing.
+-- `encoding::bounds::ends` meets its contract, by the kind. Assumes nothing.
 use Rattle.encoding.specs.Bounds.{endsOf}
 use Rattle.distribution.proofs.Whole.{ReadBack}
 use borrow.Author.Needs.{needs}

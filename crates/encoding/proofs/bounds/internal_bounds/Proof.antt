@@ -1,4 +1,4 @@
--- `common::internal_bounds` meets its contract. Assumes nothing.
+-- `encoding::bounds::internal_bounds` meets its contract. Assumes nothing.
 use mathlib.Core.Path.{_∙_, sym}
 use borrow.Author.Tests.{not-true, not-false}
 use Rattle.encoding.specs.Bounds.{boundsOf}

@@ -1,4 +1,4 @@
--- `pair` meets its contract. Assumes nothing.
+-- `encoding::bounds::pair` meets its contract. Assumes nothing.
 use borrow.Author.Needs.{needs}
 use Rattle.encoding.proofs.bounds.pair.Statement.{statement}
 use Rattle.encoding.proofs.bounds.pair.Tie as tie

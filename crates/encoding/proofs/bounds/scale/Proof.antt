@@ -1,4 +1,4 @@
--- `scale` meets its contract. Assumes nothing.
+-- `encoding::bounds::scale` meets its contract. Assumes nothing.
 use mathlib.Core.Path.{_∙_}
 use borrow.Author.Needs.{needs}
 use Rattle.encoding.proofs.bounds.scale.Statement.{statement}

@@ -1,4 +1,4 @@
--- `encoded` meets its contract, by the two kinds. Assumes nothing.
+-- `encoding::encode::encoded` meets its contract, by the two kinds. Assumes nothing.
 use mathlib.Core.Path.{_≡_, _∙_, sym, ap}
 use mathlib.Core.Bool.{true, false}
 use borrow.Author.Tests.{not-true, not-false}

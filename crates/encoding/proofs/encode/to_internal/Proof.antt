@@ -1,4 +1,4 @@
--- `common::to_internal` meets its contract. Assumes nothing.
+-- `encoding::encode::to_internal` meets its contract. Assumes nothing.
 use mathlib.Core.Path.{_∙_, sym}
 use borrow.Author.Tests.{not-true, not-false}
 use Rattle.encoding.specs.Encode.{toInternalOf}

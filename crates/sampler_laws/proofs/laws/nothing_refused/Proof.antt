@@ -1,4 +1,4 @@
--- `sampler::laws::nothing_refused` meets its contract, a theorem of proofs/Nothing. Assumes nothing.
+-- `sampler_laws::laws::nothing_refused` meets its contract, a theorem of proofs/Nothing. Assumes nothing.
 use Rattle.sampler_laws.proofs.Nothing.{nothing-refused}
 use Rattle.sampler_laws.proofs.laws.nothing_refused.Statement.{statement}
 use Rattle.sampler_laws.proofs.laws.nothing_refused.Tie as tie

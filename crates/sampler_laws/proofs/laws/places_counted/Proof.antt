@@ -1,4 +1,4 @@
--- `sampler::laws::places_counted` meets its contract, a theorem of proofs/PlaceCounts. Assumes nothing.
+-- `sampler_laws::laws::places_counted` meets its contract, a theorem of proofs/PlaceCounts. Assumes nothing.
 use Rattle.sampler_laws.proofs.PlaceCounts.{places-counted}
 use Rattle.sampler_laws.proofs.laws.places_counted.Statement.{statement}
 use Rattle.sampler_laws.proofs.laws.places_counted.Tie as tie

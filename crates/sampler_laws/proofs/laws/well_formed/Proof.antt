@@ -1,4 +1,4 @@
--- `sampler::laws::well_formed` meets its contract, a theorem of proofs/WellFormed. Assumes nothing.
+-- `sampler_laws::laws::well_formed` meets its contract, a theorem of proofs/WellFormed. Assumes nothing.
 use Rattle.sampler_laws.proofs.WellFormed.{well-formed}
 use Rattle.sampler_laws.proofs.laws.well_formed.Statement.{statement}
 use Rattle.sampler_laws.proofs.laws.well_formed.Tie as tie
