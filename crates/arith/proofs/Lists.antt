@@ -182,6 +182,20 @@ place-most (suc n) t = go (place-most n t) (ltb (placeOf n t) n) (t n)
     go l false true = omega arith
     go l false false = omega arith
 
+-- before it the test holds nowhere
+pub place-before : (n : ℕ) (t : ℕ → Bool) (i : ℕ) → i < placeOf n t → t i ≡ false
+unfolding placeOf
+place-before zero t i l = absurd (not-suc-le-zero l)
+place-before (suc n) t i l = go (place-before n t i) (ltb (placeOf n t) n) (t n) refl refl l
+  where
+    go : (i < placeOf n t → t i ≡ false) → (b c : Bool) → ltb (placeOf n t) n ≡ b → t n ≡ c → i < cond b (placeOf n t) (cond c n (suc n)) → t i ≡ false
+    go f true c e q l = f l
+    go f false true e q l = let m = ltb-false (placeOf n t) n e in f (omega arith)
+    go f false false e q l = let m = ltb-false (placeOf n t) n e in elim (eq-or-lt-of-le (le-of-suc-le-suc l)) [
+      | inl z ↦ ap t z ∙ q
+      | inr k ↦ f (omega arith)
+    ]
+
 -- where it holds somewhere, there is one
 pub place-some : (n : ℕ) (t : ℕ → Bool) (i : ℕ) → i < n → T (t i) → placeOf n t < n
 unfolding placeOf
@@ -245,17 +259,18 @@ places-next n t = go (t n)
     go true = length-append (placesOf n t) (n ∷ [])
     go false = omega arith
 
--- two tests that differ at one place
-pub places-more : (n : ℕ) (t u : ℕ → Bool) (i : ℕ) → i < n → ((j : ℕ) → j < n → (j ≡ i → ⊥) → t j ≡ u j) → t i ≡ false → u i ≡ true → length (placesOf n u) ≡ length (placesOf n t) + 1
-places-more zero t u i l h a b = absurd (not-suc-le-zero l)
-places-more (suc n) t u i l h a b =
+-- two tests that differ at one place at most
+pub places-but : (n : ℕ) (t u : ℕ → Bool) (i : ℕ) → i < n → ((j : ℕ) → j < n → (j ≡ i → ⊥) → t j ≡ u j)
+    → length (placesOf n u) + cond (t i) 1 0 ≡ length (placesOf n t) + cond (u i) 1 0
+places-but zero t u i l h = absurd (not-suc-le-zero l)
+places-but (suc n) t u i l h =
     let p = places-next n t in
     let q = places-next n u in
     elim (eq-or-lt-of-le (le-of-suc-le-suc l)) [
       | inl e ↦ (let c = ap length (places-same n t u (λ j m. h j (omega arith) (λ z. omega arith))) in
-          let x : _≡_ {A = ℕ} (cond (t n) 1 0) 0 = ap (λ (y : Bool). cond y 1 0) (subst (λ (k : ℕ). t k ≡ false) e a) in
-          let y : _≡_ {A = ℕ} (cond (u n) 1 0) 1 = ap (λ (y : Bool). cond y 1 0) (subst (λ (k : ℕ). u k ≡ true) e b) in omega arith)
-      | inr m ↦ (let c = places-more n t u i m (λ j k. h j (omega arith)) a b in
+          let x : _≡_ {A = ℕ} (cond (t i) 1 0) (cond (t n) 1 0) = ap (λ (k : ℕ). cond (t k) 1 0) e in
+          let y : _≡_ {A = ℕ} (cond (u i) 1 0) (cond (u n) 1 0) = ap (λ (k : ℕ). cond (u k) 1 0) e in omega arith)
+      | inr m ↦ (let c = places-but n t u i m (λ j k. h j (omega arith)) in
           let x : _≡_ {A = ℕ} (cond (t n) 1 0) (cond (u n) 1 0) = ap (λ (y : Bool). cond y 1 0) (h n (omega arith) (λ z. omega arith)) in omega arith)
     ]
 

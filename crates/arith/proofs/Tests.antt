@@ -1,9 +1,11 @@
 -- From the outcome of a test in the code to the fact, and both cases of a test. Assumes nothing.
+use Prim.Native.Nat.{ℕ}
 use mathlib.Core.Path.{_≡_, refl, sym, subst}
 use mathlib.Core.Logic.{_⊎_, inl, inr}
 use mathlib.Core.Bool.{Bool, true, false, not, _||_, _&&_, and-eq-true-iff, cond}
-use lib.Dec.{T, not-T}
+use lib.Dec.{T, not-T, T-not, eqb, eqb→eq}
 use lib.Ieee.Bits as bits
+use lib.Ieee.Fits.{eq→eqb}
 
 pub taken : {b : Bool} → b ≡ true → T b
 taken e = subst T (sym e) tt
@@ -17,6 +19,12 @@ is-false b h = bits.is-false b (not-T b h)
 pub either : (b : Bool) → T b ⊎ T (not b)
 either true = inl tt
 either false = inr tt
+
+pub equal-or-not : (a b : ℕ) → (a ≡ b) ⊎ (a ≡ b → ⊥)
+equal-or-not a b = elim (either (eqb a b)) [
+  | inl t ↦ inl (eqb→eq a b t)
+  | inr t ↦ inr (λ e. T-not (eqb a b) t (eq→eqb e))
+]
 
 pub or-split : (a b : Bool) → T (a || b) → T a ⊎ T b
 or-split true b t = inl tt

@@ -1,7 +1,7 @@
 // The two calls of a sampler.
 pub mod calls;
 pub mod phases;
-pub mod places;
+pub mod serving;
 pub mod states;
 
 pub use calls::close;

@@ -1,15 +1,13 @@
-// How a call is served: in discovery, from a place, or as a new trial.
+// How a call is served: in discovery, or after it by the trial's place.
 ghost use mathlib.Core.Path.{_≡_};
 ghost use mathlib.Core.Bool.{_||_};
-ghost use Prim.Native.Nat.{_≤_, _<_};
+ghost use Prim.Native.Nat.{_≤_};
 ghost use lib.Dec.{eqb};
-ghost use Rattle.sampler_laws.specs.Calls.{discoverOf, nextOf, storedOf, newTrialOf, activeOf, unlessRefused, servedOf};
-use crate::places;
+ghost use Rattle.sampler_laws.specs.Calls.{discoverOf, activeOf, unlessRefused, servedOf};
+use crate::serving;
 use crate::states;
 use distribution::Distribution;
-use proposal::Proposal;
 use sampler_laws::Sampled;
-use sampler_state::Place;
 use sampler_state::Sampler;
 
 // The discovery trial: one more dimension and a random value for it. The 21st is refused.
@@ -24,76 +22,22 @@ fn discover(s: Sampler, d: Distribution, trial: u64) -> Sampled
     states::with_draw(states::with_dimension(s, trial, d), r)
 }
 
-// The trial of place i: its next value, or past the last one a random one.
-fn next(s: Sampler, d: Distribution, i: usize) -> Sampled
-    requires { ⌜ (s .«n_dims» ≤ 20) × (i < 32) ⌝ }
-    ensures { λ r. ⌜ r ≡ nextOf s d i ⌝ }
-{
-    let places = s.places;
-    let mut p = places::place_at(places, i);
-    let j = p.next_dim;
-    if j >= s.n_dims {
-        return states::with_draw(s, common::sample_random(s.word, d));
-    }
-    let values = p.values;
-    let value = places::value_at(values, j);
-    p.next_dim = j + 1;
-    Sampled {
-        number: 0,
-        value,
-        drawn: 0,
-        sampler: states::with_place(s, i, p),
-    }
-}
-
-// A new trial's values stored in place i, and the first of them.
-fn stored(s: Sampler, i: usize, trial: u64, c: Proposal) -> Sampled
-    requires { ⌜ i < 32 ⌝ }
-    ensures { λ r. ⌜ r ≡ storedOf s i trial c ⌝ }
-{
-    if c.number != 0 {
-        return states::refused(s, c.number);
-    }
-    let values = c.values;
-    let p = Place {
-        trial,
-        values,
-        next_dim: 1,
-    };
-    Sampled {
-        number: 0,
-        value: places::value_at(values, 0),
-        drawn: c.drawn,
-        sampler: states::with_word(states::with_place(s, i, p), c.next),
-    }
-}
-
-// A new trial takes the first free place.
-fn new_trial(s: Sampler, trial: u64, h: &[u64]) -> Sampled
-    ensures { λ r. ⌜ r ≡ newTrialOf s trial (now (h .entry)) ⌝ }
-{
-    let places = s.places;
-    let i = sampler_state::free_place(places);
-    if i >= 32 {
-        return states::refused(s, 9);
-    }
-    let settings = s.settings;
-    let dims = s.dimensions;
-    let c = proposal::compute_candidate(settings, dims, s.n_dims, s.word, h);
-    stored(s, i, trial, c)
-}
-
-// After discovery: a trial with a place, or a new one.
+// After discovery: the trial is served, and what it is left with is put back.
 fn active(s: Sampler, d: Distribution, trial: u64, h: &[u64]) -> Sampled
     requires { ⌜ s .«n_dims» ≤ 20 ⌝ }
     ensures { λ r. ⌜ r ≡ activeOf s d trial (now (h .entry)) ⌝ }
 {
     let places = s.places;
-    let i = sampler_state::trial_place(places, trial);
-    if i < 32 {
-        return next(s, d, i);
+    let found = sampler_state::find(places, trial);
+    let i = found.spot;
+    if i >= 32 {
+        return states::refused(s, 9);
     }
-    new_trial(s, trial, h)
+    let settings = s.settings;
+    let dims = s.dimensions;
+    let p = found.place;
+    let r = serving::serving(settings, dims, s.n_dims, s.word, p, d, trial, h);
+    states::put(s, i, r)
 }
 
 // Whether the call is the discovery trial's.

@@ -1,11 +1,12 @@
 // A sampler with a field or two changed, and the answers made of it.
 ghost use mathlib.Core.Path.{_≡_};
 ghost use Prim.Native.Nat.{_<_};
-ghost use Rattle.sampler_laws.specs.Calls.{refusedOf, withWord, withPlace, activated, withDimension, drawnOf};
+ghost use Rattle.sampler_laws.specs.Calls.{refusedOf, withWord, withPlace, activated, withDimension, drawnOf, putOf};
 use common::RandomDraw;
 use distribution::Distribution;
 use distribution::ParamValue;
 use sampler_laws::Sampled;
+use sampler_laws::Serving;
 use sampler_state::Place;
 use sampler_state::Sampler;
 
@@ -66,5 +67,25 @@ pub(crate) fn with_draw(s: Sampler, r: RandomDraw) -> Sampled
         value,
         drawn: r.drawn,
         sampler: with_word(s, r.next),
+    }
+}
+
+// A serving put back, its place as place i and its word; a refused one changes nothing.
+pub(crate) fn put(mut s: Sampler, i: usize, r: Serving) -> Sampled
+    requires { ⌜ i < 32 ⌝ }
+    ensures { λ r1. ⌜ r1 ≡ putOf s i r ⌝ }
+{
+    if r.number != 0 {
+        return refused(s, r.number);
+    }
+    let place = r.place;
+    let value = r.value;
+    s.places[i] = place;
+    s.word = r.next;
+    Sampled {
+        number: 0,
+        value,
+        drawn: r.drawn,
+        sampler: s,
     }
 }

@@ -6,14 +6,16 @@ use lib.Dec.{eqb}
 use mathlib.Core.List.{[], _∷_}
 use lib.IntN.{pos}
 use lib.Ieee.{binary64, ofBits, toBits, ofInt, le, lt, eq, neg}
-use Rattle.arith.specs.Lists.{every, grown, placeOf, placesOf}
+use Rattle.arith.specs.Lists.{every, filled, grown, placeOf, placesOf}
 use Rattle.rng_util.specs.Draws.{unitOf, wholeDrawOf, wholeOf, rangeOk}
 use Rattle.rng_util.specs.Generator.{streamOf, nextOf as step}
+use Rattle.distribution.specs.declared.Distribution.{Distribution}
 use Rattle.distribution.specs.declared.ParamValue.{ParamValue}
 use Rattle.distribution.specs.Shape.{shapeOf, intShape, intStep, categoricalShape}
 use Rattle.distribution_words.specs.Words.{readOf, checkedOf, intRead, categoricalRead}
 use Rattle.encoding.specs.Bounds.{boundsOf, endsOf}
 use Rattle.common.specs.Random.{sampleRandomOf, randomOf, intRandom, linearIntRandom, categoricalRandom, fromWhole}
+use Rattle.dimensions.specs.Empty.{emptyStored}
 use Rattle.dimensions.specs.Dimensions.{dimensionOk, dimensionsOk, columnsOf}
 use Rattle.gp_model.specs.Fit.{fitOf, fitDomain}
 use Rattle.gp_model.specs.Statistics.{allWithin}
@@ -26,12 +28,14 @@ use Rattle.settings.specs.Settings.{settingsOk}
 use Rattle.proposal.specs.Proposal.{candidateOf, candidateNumber, computeCandidateOf}
 use Rattle.proposal.specs.Values.{stepOf, walkOf}
 use Rattle.sampler_laws.specs.declared.Sampled.{Sampled}
+use Rattle.sampler_laws.specs.declared.Serving.{Serving}
+use Rattle.sampler_state.specs.declared.Place.{Place}
 use Rattle.sampler_state.specs.declared.Sampler.{Sampler}
-use Rattle.sampler_laws.specs.Calls.{withWord, activated, discoverOf, nextOf, newTrialOf, activeOf, servedOf, sampleOf, closeOf}
+use Rattle.sampler_laws.specs.Calls.{withWord, withPlace, activated, discoverOf, servingOf, putOf, activeOf, servedOf, sampleOf, closeOf}
 use Rattle.sampler_laws.specs.Laws.{wordsTaken}
 use Rattle.sampler_laws.specs.NewTrials.{newTrial, servedHistory, fitMade, fitAnswer, hasModel, continuous, choices, pointDrawn}
 use Rattle.sampler_laws.specs.Runs.{Asked, Call, asks, closes, answersOf, endOf}
-use Rattle.sampler_state.specs.State.{freshOf, trialPlace, freePlace, takenCount, placeOk, trialsOnce, samplerOk}
+use Rattle.sampler_state.specs.State.{emptyPlace, freshOf, placeAt, trialPlace, freePlace, spotFor, storedAt, takenCount, placeOk, trialsOnce, samplerOk}
 
 -- start-up 10, no candidates, no noise, seed 1, one slot
 abbrev fresh : Sampler
@@ -85,7 +89,7 @@ Run =
     × (said (choice (withWord fresh 0) 7) ≡ (11, ParamValue.Refused 11, 0))
 
 run : Run
-unfolding sampleOf closeOf discoverOf nextOf newTrialOf activeOf servedOf trialPlace freePlace takenCount placeOk trialsOnce samplerOk settingsOk candidateOf candidateNumber computeCandidateOf stepOf walkOf viewOf trainingOf recentTraining numberOf dimensionOk dimensionsOk columnsOf wholeRows rowCount recentCount recentOf recentTests refusalOf boundsOf endsOf sampleRandomOf randomOf intRandom linearIntRandom categoricalRandom fromWhole shapeOf intShape intStep categoricalShape readOf checkedOf intRead categoricalRead wholeDrawOf wholeOf rangeOk step every grown placeOf placesOf ofBits toBits ofInt le lt eq neg
+unfolding sampleOf closeOf discoverOf servingOf activeOf servedOf trialPlace freePlace spotFor takenCount placeOk trialsOnce samplerOk settingsOk candidateOf candidateNumber computeCandidateOf stepOf walkOf viewOf trainingOf recentTraining numberOf dimensionOk dimensionsOk columnsOf wholeRows rowCount recentCount recentOf recentTests refusalOf boundsOf endsOf sampleRandomOf randomOf intRandom linearIntRandom categoricalRandom fromWhole shapeOf intShape intStep categoricalShape readOf checkedOf intRead categoricalRead wholeDrawOf wholeOf rangeOk step every grown placeOf placesOf ofBits toBits ofInt le lt eq neg
 run = (refl, refl, refl, refl, refl, refl, refl, refl, refl, refl, refl, refl)
 
 -- ---- the same run as a list of calls, and what the laws say of each
@@ -124,8 +128,51 @@ Laws =
     × (fitMade (third .sampler) [] ≡ false)
 
 laws : Laws
-unfolding newTrial hasModel wordsTaken answersOf endOf sampleOf closeOf discoverOf nextOf newTrialOf activeOf servedOf trialPlace freePlace takenCount placeOk trialsOnce samplerOk settingsOk candidateOf candidateNumber computeCandidateOf stepOf walkOf viewOf trainingOf recentTraining numberOf dimensionOk dimensionsOk columnsOf wholeRows rowCount recentCount recentOf recentTests refusalOf boundsOf endsOf sampleRandomOf randomOf intRandom linearIntRandom categoricalRandom fromWhole shapeOf intShape intStep categoricalShape readOf checkedOf intRead categoricalRead wholeDrawOf wholeOf rangeOk step every grown placeOf placesOf ofBits toBits ofInt le lt eq neg
+unfolding newTrial hasModel wordsTaken answersOf endOf sampleOf closeOf discoverOf servingOf activeOf servedOf trialPlace freePlace spotFor takenCount placeOk trialsOnce samplerOk settingsOk candidateOf candidateNumber computeCandidateOf stepOf walkOf viewOf trainingOf recentTraining numberOf dimensionOk dimensionsOk columnsOf wholeRows rowCount recentCount recentOf recentTests refusalOf boundsOf endsOf sampleRandomOf randomOf intRandom linearIntRandom categoricalRandom fromWhole shapeOf intShape intStep categoricalShape readOf checkedOf intRead categoricalRead wholeDrawOf wholeOf rangeOk step every grown placeOf placesOf ofBits toBits ofInt le lt eq neg
 laws = (refl, refl, refl, refl, refl, refl, refl, refl, refl, refl, refl, refl, refl, refl, refl, refl)
+
+-- ---- one trial served, and put back
+
+-- trial 8 of the run, with the values 2 and 7 and its next dimension given
+abbrev at : ℕ → Place
+at next = record { taken = true; trial = 8; values = filled emptyStored 20 ((record { value = ParamValue.Categorical 2 }) ∷ (record { value = ParamValue.Int (pos 7) }) ∷ []); «next_dim» = next }
+
+-- the int from 0 to 9 asked, with the dimensions of the run and the generator's word 1
+abbrev serve : Place → Serving
+serve p = servingOf (fresh .settings) (second .sampler .dimensions) 2 1 p (Distribution.Int (record { low = pos 0; high = pos 9; «log_scale» = false; stepped = false; step = pos 0 })) 8 []
+
+-- a serving put back as place 3 of a sampler that has a place 0
+abbrev before : Sampler
+before = withPlace fresh 0 (at 1)
+
+abbrev put : Serving → Sampled
+put r = putOf before 3 r
+
+abbrev refusal : Serving
+refusal = record { number = 11; value = ParamValue.Int (pos 7); drawn = 5; place = at 2; next = 9 }
+
+abbrev Servings : Type 0
+Servings =
+    -- the value at the next dimension, not the first, and no word; the place moved on by one
+    (serve (at 1) ≡ record { number = 0; value = ParamValue.Int (pos 7); drawn = 0; place = at 2; next = 1 })
+    -- past the last a draw, and the place as it was
+    × (serve (at 2) ≡ record { number = 0; value = ParamValue.Int (pos 1); drawn = 1; place = at 2; next = 0x40822041 })
+    -- a free place: a new trial, whatever else stands there; both values drawn and stored, the first answered
+    × (serve (record { taken = false; trial = 8; values = at 1 .values; «next_dim» = 1 }) ≡ serve emptyPlace)
+    × (serve emptyPlace .value ≡ ParamValue.Categorical 1)
+    × (storedAt (serve emptyPlace .place) 1 ≡ ParamValue.Int (pos 5))
+    × (serve emptyPlace .place .«next_dim» ≡ 1)
+    × (serve emptyPlace .next ≡ 0x100041060c011441)
+    -- put back: its place, no other, and its word; a refused one leaves all as it was
+    × (placeAt (put (serve (at 1)) .sampler .places) 3 ≡ at 2)
+    × (placeAt (put (serve (at 2)) .sampler .places) 0 ≡ at 1)
+    × (put (serve (at 2)) .sampler .word ≡ 0x40822041)
+    × (said (put (serve (at 2))) ≡ (0, ParamValue.Int (pos 1), 1))
+    × (put refusal ≡ record { number = 11; value = ParamValue.Refused 11; drawn = 0; sampler = before })
+
+servings : Servings
+unfolding sampleOf closeOf discoverOf servingOf activeOf servedOf trialPlace freePlace spotFor takenCount placeOk trialsOnce samplerOk settingsOk candidateOf candidateNumber computeCandidateOf stepOf walkOf viewOf trainingOf recentTraining numberOf dimensionOk dimensionsOk columnsOf wholeRows rowCount recentCount recentOf recentTests refusalOf boundsOf endsOf sampleRandomOf randomOf intRandom linearIntRandom categoricalRandom fromWhole shapeOf intShape intStep categoricalShape readOf checkedOf intRead categoricalRead wholeDrawOf wholeOf rangeOk step every grown placeOf placesOf ofBits toBits ofInt le lt eq neg
+servings = (refl, refl, refl, refl, refl, refl, refl, refl, refl, refl, refl, refl)
 
 -- two candidates and no start-up: after discovery of the int a new trial without a row asks for a fit, which has none, and its points would be the next two words
 abbrev eager : Sampler

@@ -1,20 +1,19 @@
 -- A well-formed sampler with its word, a place, its phase or its dimensions changed is well-formed. Assumes nothing.
-use Prim.Native.Nat.{ℕ, _+_, _≤_, _<_}
+use Prim.Native.Nat.{ℕ, _+_, _<_}
 use native.Mathlib.Omega.{arith}
 use mathlib.Core.Path.{_≡_, refl, sym, ap, _∙_, subst}
 use mathlib.Core.Bool.{Bool, true, false, not, _&&_}
 use mathlib.Core.List.{List}
-use mathlib.Core.Logic.{_⊎_, inl, inr}
-use lib.Dec.{T, T-not, eqb, eqb→eq, eqb-refl, leb, le→leb}
-use lib.ListN.{length, set, length-set}
+use mathlib.Core.Logic.{inl, inr}
+use lib.Dec.{T, T-not, eqb-refl, leb, le→leb}
+use lib.ListN.{set, length-set}
 use lib.Seq.{getD-set-same, getD-set-other}
 use lib.Ieee.{Float, binary64, fits, ofBits, toBits}
 use lib.Ieee.Bits.{ofBits-fits}
-use lib.Ieee.Fits.{and-i, eq→eqb}
+use lib.Ieee.Fits.{and-i, and-l, and-r}
 use Rattle.arith.specs.Lists.{every}
-use Rattle.arith.proofs.Lists.{every-each, each-every}
-use Rattle.arith.proofs.Tests.{untaken, either, or-left, or-right, or-split}
-use Rattle.distribution.proofs.Facts.{parts}
+use Rattle.arith.proofs.Lists.{each-every}
+use Rattle.arith.proofs.Tests.{untaken, equal-or-not, or-left, or-right, or-split}
 use Rattle.rng_util.proofs.Nonzero.{Nonzero, nonzero-test}
 use Rattle.distribution.specs.declared.Distribution.{Distribution}
 use Rattle.distribution_words.specs.RoundTrip.{Held}
@@ -30,80 +29,35 @@ use Rattle.sampler_state.specs.declared.Place.{Place}
 use Rattle.sampler_state.specs.declared.Sampler.{Sampler}
 use Rattle.sampler_laws.specs.Calls.{withWord, withPlace, activated, withDimension}
 use Rattle.sampler_laws.specs.Laws.{Typed}
-use Rattle.sampler_state.specs.State.{emptyPlace, placeAt, taken, storedOk, storedAt, placeOk}
-use Rattle.sampler_laws.proofs.Parts.{Once, Ok, Well, formed}
-
--- two places are one or not
-same : (a b : ℕ) → (a ≡ b) ⊎ (a ≡ b → ⊥)
-same a b = elim (either (eqb a b)) [
-  | inl t ↦ inl (eqb→eq a b t)
-  | inr t ↦ inr (λ e. T-not (eqb a b) t (eq→eqb e))
-]
+use Rattle.sampler_state.specs.State.{placeAt, taken, progressOk, placeOk}
+use Rattle.sampler_laws.proofs.Parts.{Ok, Well, ready}
+use Rattle.sampler_state.proofs.Held.{Once, each-set}
 
 -- ---- one place
 
 module _ (active : Bool) (dims : List DimensionInfo) (k : ℕ) (p : Place) where
-  abbrev inRange : ℕ → Bool
-  inRange j = storedOk (dimensionAt dims j .distribution) (storedAt p j)
-
   pub free-ok : T (not (taken p)) → T (placeOk active dims k p)
   unfolding placeOk
-  free-ok t = or-left (not (taken p)) (active && leb (p .«next_dim») k && every k inRange) t
+  free-ok t = or-left (not (taken p)) (active && progressOk dims k p) t
 
   -- without an active sampler a place is free
   free : active ≡ false → T (placeOk active dims k p) → T (not (taken p))
   unfolding placeOk
-  free e t = elim (or-split (not (taken p)) (active && leb (p .«next_dim») k && every k inRange) t) [
+  free e t = elim (or-split (not (taken p)) (active && progressOk dims k p) t) [
     | inl h ↦ h
-    | inr h ↦ absurd (T-not active (untaken e) (search parts))
+    | inr h ↦ absurd (T-not active (untaken e) (and-l active (progressOk dims k p) h))
   ]
 
-  -- of an active sampler, with its next dimension up to the count and its values in range
-  pub taken-ok : T active → p .«next_dim» ≤ k → ((j : ℕ) → j < k → T (inRange j)) → T (placeOk active dims k p)
+  pub taken-ok : T active → T (progressOk dims k p) → T (placeOk active dims k p)
   unfolding placeOk
-  taken-ok a l v =
-      let b = le→leb (p .«next_dim») k l in
-      let c = each-every k inRange v in
-      or-right (not (taken p)) (active && leb (p .«next_dim») k && every k inRange) (search and-i)
+  taken-ok a v = or-right (not (taken p)) (active && progressOk dims k p) (and-i active (progressOk dims k p) a v)
 
-  pub ok-taken : T (placeOk active dims k p) → T (taken p) → T active × ((j : ℕ) → j < k → T (inRange j))
+  pub ok-taken : T (placeOk active dims k p) → T (taken p) → T active × T (progressOk dims k p)
   unfolding placeOk
-  ok-taken t h = elim (or-split (not (taken p)) (active && leb (p .«next_dim») k && every k inRange) t) [
+  ok-taken t h = elim (or-split (not (taken p)) (active && progressOk dims k p) t) [
     | inl f ↦ absurd (T-not (taken p) f h)
-    | inr g ↦ (search parts, every-each k inRange (search parts))
+    | inr g ↦ (and-l active (progressOk dims k p) g, and-r active (progressOk dims k p) g)
   ]
-
--- ---- a list of places with one changed
-
-module _ (places : List Place) (i : ℕ) (p : Place) (l : i < length places) where
-  abbrev after : ℕ → Place
-  after j = placeAt (set places i p) j
-
-  here : (j : ℕ) → j ≡ i → after j ≡ p
-  here j e = subst (λ (n : ℕ). after n ≡ p) (sym e) (getD-set-same places i p emptyPlace l)
-
-  there : (j : ℕ) → (j ≡ i → ⊥) → after j ≡ placeAt places j
-  there j n = getD-set-other places i j p emptyPlace n
-
-  -- what holds of p and of each place holds of each place after
-  each-set : (P : Place → Type 0) → P p → (j : ℕ) → P (placeAt places j) → P (after j)
-  each-set P h j g = elim (same j i) [ inl e ↦ subst P (sym (here j e)) h | inr n ↦ subst P (sym (there j n)) g ]
-
-  -- p holds no trial of another place
-  once-set : Once places → (T (taken p) → (j : ℕ) → j < 32 → T (taken (placeAt places j)) → placeAt places j .trial ≡ p .trial → j ≡ i) → Once (set places i p)
-  once-set o other a b la lb ta tb e = elim (same a i) [
-    | inl x ↦ elim (same b i) [ inl y ↦ x ∙ sym y | inr y ↦ x ∙ sym (alone b lb y tb a x ta (sym e)) ]
-    | inr x ↦ elim (same b i) [ inl y ↦ alone a la x ta b y tb e ∙ sym y | inr y ↦ o a b la lb (holding (there a x) ta) (holding (there b y) tb) (trials (there a x) (there b y) e) ]
-  ]
-    where
-      holding : {q r : Place} → q ≡ r → T (taken q) → T (taken r)
-      holding e t = subst (λ (x : Place). T (taken x)) e t
-
-      trials : {q r u v : Place} → q ≡ u → r ≡ v → q .trial ≡ r .trial → u .trial ≡ v .trial
-      trials x y e = ap (λ (q : Place). q .trial) (sym x) ∙ e ∙ ap (λ (q : Place). q .trial) y
-
-      alone : (a : ℕ) → a < 32 → (a ≡ i → ⊥) → T (taken (after a)) → (b : ℕ) → b ≡ i → T (taken (after b)) → after a .trial ≡ after b .trial → a ≡ i
-      alone a la n ta b y tb e = other (holding (here b y) tb) a la (holding (there a n) ta) (trials (there a n) (here b y) e)
 
 -- ---- the dimension of a distribution
 
@@ -141,20 +95,18 @@ module _ (s : Sampler) (g : Well s) where
     ok = record { settings = o .settings; word = untaken (nonzero-test w h); dimensions = o .dimensions; some = o .some; places = o .places; once = o .once };
   }
 
-  pub with-place : (i : ℕ) (p : Place) → i < 32 → T (placeOk (s .active) (s .dimensions) (s .«n_dims») p)
-      → (T (taken p) → (j : ℕ) → j < 32 → T (taken (placeAt (s .places) j)) → placeAt (s .places) j .trial ≡ p .trial → j ≡ i) → Well (withPlace s i p)
-  with-place i p l k other =
-      let m : i < length (s .places) = rw (t .places) l in record {
-        typed = record { word = t .word; dimensions = t .dimensions; places = length-set (s .places) i p ∙ t .places; held = t .held; ends = t .ends };
-        ok = record {
-          settings = o .settings;
-          word = o .word;
-          dimensions = o .dimensions;
-          some = o .some;
-          places = λ j n. each-set (s .places) i p m (λ q. T (placeOk (s .active) (s .dimensions) (s .«n_dims») q)) k j (o .places j n);
-          once = once-set (s .places) i p m (o .once) other;
-        };
-      }
+  pub with-place : (i : ℕ) (p : Place) → i < 32 → T (placeOk (s .active) (s .dimensions) (s .«n_dims») p) → Once (set (s .places) i p) → Well (withPlace s i p)
+  with-place i p l k once = record {
+    typed = record { word = t .word; dimensions = t .dimensions; places = length-set (s .places) i p ∙ t .places; held = t .held; ends = t .ends };
+    ok = record {
+      settings = o .settings;
+      word = o .word;
+      dimensions = o .dimensions;
+      some = o .some;
+      places = λ j n. each-set (s .places) (t .places) i l p (λ q. T (placeOk (s .active) (s .dimensions) (s .«n_dims») q)) k j (o .places j n);
+      once = once;
+    };
+  }
 
   all-free : s .active ≡ false → (i : ℕ) → i < 32 → T (not (taken (placeAt (s .places) i)))
   all-free a i l = free (s .active) (s .dimensions) (s .«n_dims») (placeAt (s .places) i) a (o .places i l)
@@ -197,9 +149,9 @@ module _ (s : Sampler) (g : Well s) where
       dims = set (s .dimensions) (s .«n_dims») (dimensionOf d)
 
       all : (j : ℕ) → j < s .«n_dims» + 1 → Formed (dimensionAt dims j)
-      all j m = elim (same j (s .«n_dims»)) [
+      all j m = elim (equal-or-not j (s .«n_dims»)) [
         | inl e ↦ subst (λ (n : ℕ). Formed (dimensionAt dims n)) (sym e) (subst Formed (sym (getD-set-same (s .dimensions) (s .«n_dims») (dimensionOf d) noDimension (rw (t .dimensions) l))) f)
-        | inr n ↦ subst Formed (sym (getD-set-other (s .dimensions) (s .«n_dims») j (dimensionOf d) noDimension n)) (formed s g j (omega arith))
+        | inr n ↦ subst Formed (sym (getD-set-other (s .dimensions) (s .«n_dims») j (dimensionOf d) noDimension n)) (ready s g .formed j (omega arith))
       ]
 
       ok : T (dimensionsOk dims (s .«n_dims» + 1))

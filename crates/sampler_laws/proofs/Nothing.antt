@@ -3,13 +3,13 @@ use Prim.Native.Nat.{ℕ, _*_, _/_, _%_, _<_}
 use native.Mathlib.Nat.{zero-sub, zero-mod, zero-div}
 use native.Mathlib.Omega.{arith}
 use mathlib.Core.Path.{_≡_, refl, sym, ap, _∙_, subst}
-use mathlib.Core.Bool.{Bool, true, false, _||_, cond}
+use mathlib.Core.Bool.{Bool, true, false, cond}
 use mathlib.Core.List.{List, [], _∷_}
-use lib.Dec.{T, T-not, eqb, leb, leb→le}
+use lib.Dec.{T, leb, leb→le}
 use lib.Signed.{leZ}
-use lib.ListN.{length, getD, take, length-drop}
+use lib.ListN.{getD, take, length-drop}
 use lib.Ieee.Bits.{is-true}
-use lib.Ieee.Fits.{and-i, eq→eqb}
+use lib.Ieee.Fits.{and-i}
 use borrow.Author.Tests.{eq-eqb}
 use Rattle.arith.specs.Lists.{every}
 use Rattle.distribution.specs.declared.Distribution.{Distribution}
@@ -17,28 +17,31 @@ use Rattle.distribution.specs.declared.ParamValue.{ParamValue}
 use Rattle.distribution.specs.Taken.{takenOf}
 use Rattle.distribution.proofs.Facts.{parts}
 use Rattle.common.specs.Random.{sampleRandomOf}
-use Rattle.history.specs.declared.Training.{Training}
-use Rattle.dimensions.specs.Dimensions.{dimensionAt, dimensionsOk, columnsOf}
+use Rattle.history_view.specs.declared.View.{View}
+use Rattle.dimensions.specs.declared.DimensionInfo.{DimensionInfo}
+use Rattle.dimensions.specs.Dimensions.{dimensionAt, dimensionsOk}
 use Rattle.param_mapping.specs.Mapping.{numberOf}
 use Rattle.history_rows.specs.Rows.{widthOf, wholeRows, rowCount, recentOf, olderOf}
 use Rattle.history_rows.specs.Tests.{firstOf, recentTests, refusalOf}
-use Rattle.history.specs.Training.{recentTraining, trainingOf}
+use Rattle.history.specs.Training.{trainingOf}
 use Rattle.history_view.specs.View.{viewOf}
-use Rattle.history.proofs.FromArray.{training-is, training-number}
+use Rattle.history.proofs.FromArray.{training-number}
 use Rattle.history_rows.proofs.Passed.{refusal-recent}
 use Rattle.history_view.proofs.Usable.{usable}
 use Rattle.settings.specs.declared.Settings.{Settings}
 use Rattle.settings.specs.Settings.{settingsOk}
 use Rattle.proposal.specs.declared.Proposal.{Proposal}
-use Rattle.proposal.specs.Proposal.{candidateNumber, computeCandidateOf}
+use Rattle.proposal.specs.Points.{fitFor}
+use Rattle.proposal.specs.Proposal.{computeCandidateOf}
 use Rattle.dimensions.specs.Empty.{emptyStored}
 use Rattle.proposal.proofs.Numbers.{by-history, accepted-is}
-use Rattle.proposal.proofs.Ranges.{InRange, fit-number, random-ranged, candidate-number, candidate-ranged}
+use Rattle.proposal.proofs.WordCount.{view-columns}
+use Rattle.proposal.proofs.Ranges.{InRange, fitNumber, fit-number, random-ranged, candidate-number, candidate-ranged}
 use Rattle.sampler_state.specs.declared.Sampler.{Sampler}
 use Rattle.sampler_laws.specs.Laws.{NothingRefused}
 use Rattle.sampler_laws.specs.NewTrials.{servedHistory, fitMade, fitAnswer}
 use Rattle.sampler_state.specs.State.{storedOk}
-use Rattle.sampler_laws.proofs.Parts.{Well, well, nonzero, formed}
+use Rattle.sampler_laws.proofs.Parts.{Well, well, Ready, ready}
 
 -- ---- a value in range is one that a place may hold
 
@@ -104,52 +107,55 @@ refusal-small s h o =
 
 -- ---- the facts
 
-module _ (s : Sampler) (g : Well s) (h : List ℕ) (r : refusalOf (s .settings .slots) h ≡ 0) where
-  abbrev n : ℕ
-  n = s .settings .slots
+abbrev pub InRanges : List DimensionInfo → ℕ → Proposal → Type 0
+InRanges dims k c = (c .number ≡ 0) × ((j : ℕ) → j < k → T (storedOk (dimensionAt dims j .distribution) (getD (c .values) j emptyStored .value)))
 
-  abbrev served : List ℕ
-  served = servedHistory s h
+module _ (settings : Settings) (dims : List DimensionInfo) (k word : ℕ) (g : Ready settings dims k word) (h : List ℕ) (r : refusalOf (settings .slots) h ≡ 0) where
+  abbrev view : View
+  view = viewOf (settings .slots) (settings .«n_startup_trials») dims k h
 
-  number : numberOf n (s .dimensions) (s .«n_dims») served ≡ 0
+  number : numberOf (settings .slots) dims k h ≡ 0
   unfolding numberOf
-  number = ap (λ (b : Bool). cond b (refusalOf n served) 11) (is-true (dimensionsOk (s .dimensions) (s .«n_dims»)) (g .ok .dimensions)) ∙ go (s .active)
-    where
-      go : (b : Bool) → refusalOf n (cond b h []) ≡ 0
-      go true = r
-      go false = empty-accepted n (slots-least (s .settings) (g .ok .settings)) (slots-most (s .settings) (g .ok .settings))
+  number = rw (is-true (dimensionsOk dims k) (g .dimensions)) r
 
-  fit : T (fitMade s h) → T (eqb (fitAnswer s h .number) 0 || eqb (fitAnswer s h .number) 12 || eqb (fitAnswer s h .number) 13)
+  training : view .training .number ≡ 0
+  unfolding viewOf
+  training = training-number (settings .slots) dims k h ∙ number
+
+  fit : T (leb 1 (view .training .d)) → T (fitNumber (fitFor (view .training) (settings .«noise_variance») .number))
   unfolding viewOf
   fit m =
-      let v = trainingOf n (s .dimensions) (s .«n_dims») served in
-      fit-number (take (v .n * v .d) (v .x)) (take (v .n) (v .y)) (v .d) (s .settings .«noise_variance»)
-      (usable .fits n (s .dimensions) (s .«n_dims») served (g .typed .held) (g .typed .ends) (training-number n (s .dimensions) (s .«n_dims») served ∙ number) (leb→le 1 (v .d) (search parts)))
+      let v = trainingOf (settings .slots) dims k h in
+      fit-number (take (v .n * v .d) (v .x)) (take (v .n) (v .y)) (v .d) (settings .«noise_variance»)
+      (usable .fits (settings .slots) dims k h (λ j l. g .formed j l .held) (λ j l. (g .formed j l .lo-fits, g .formed j l .hi-fits)) training (leb→le 1 (v .d) m))
 
-  candidate : candidateNumber (s .settings) (s .dimensions) (s .«n_dims») (s .word) served ≡ 0
-  candidate =
-      let e : viewOf n (s .settings .«n_startup_trials») (s .dimensions) (s .«n_dims») served .training .number ≡ 0 = unfold viewOf in training-number n (s .dimensions) (s .«n_dims») served ∙ number in
-      by-history (s .settings) (s .dimensions) (s .«n_dims») (s .word) served (is-true (settingsOk (s .settings)) (g .ok .settings)) (λ z. T-not (eqb (s .word) 0) (g .ok .word) (eq→eqb z))
-      ∙ e
-
-  columns : viewOf n (s .settings .«n_startup_trials») (s .dimensions) (s .«n_dims») served .training .d ≡ length (columnsOf (s .dimensions) (s .«n_dims»))
-  unfolding viewOf recentTraining
-  columns = ap (λ (v : Training). v .d) (training-is n (s .dimensions) (s .«n_dims») served number)
-
-  values : let c = computeCandidateOf (s .settings) (s .dimensions) (s .«n_dims») (s .word) served in
-      (c .number ≡ 0) × ((j : ℕ) → j < s .«n_dims» → T (storedOk (dimensionAt (s .dimensions) j .distribution) (getD (c .values) j emptyStored .value)))
-  values =
-      let v = viewOf n (s .settings .«n_startup_trials») (s .dimensions) (s .«n_dims») served in
-      subst (λ (c : Proposal). (c .number ≡ 0) × ((j : ℕ) → j < s .«n_dims» → T (storedOk (dimensionAt (s .dimensions) j .distribution) (getD (c .values) j emptyStored .value))))
-      (sym (accepted-is (s .settings) (s .dimensions) (s .«n_dims») (s .word) served candidate)) (
-        candidate-number (s .settings) (s .dimensions) (s .«n_dims») (s .word) v,
-        λ j l.
-            stored-ok (dimensionAt (s .dimensions) j .distribution) _ (candidate-ranged (s .settings) (s .dimensions) (s .«n_dims») (s .word) v (nonzero s g) (λ _. columns) (formed s g) j l),
+  -- a new trial's values are made and in range
+  pub values-made : InRanges dims k (computeCandidateOf settings dims k word h)
+  values-made =
+      let made = by-history settings dims k word h (is-true (settingsOk settings) (g .settings-ok)) (λ z. let l = g .nonzero .0 in omega arith) ∙ training in
+      subst (InRanges dims k) (sym (accepted-is settings dims k word h made)) (
+        candidate-number settings dims k word view,
+        λ j l. stored-ok (dimensionAt dims j .distribution) _ (candidate-ranged settings dims k word view (g .nonzero) (λ _. view-columns settings dims k word h number) (g .formed) j l),
       )
+
+-- the history that a call is served with is not refused where its own is not
+pub served-accepted : (s : Sampler) (h : List ℕ) → T (settingsOk (s .settings)) → refusalOf (s .settings .slots) h ≡ 0 → refusalOf (s .settings .slots) (servedHistory s h) ≡ 0
+served-accepted s h o r = go (s .active)
+  where
+    go : (b : Bool) → refusalOf (s .settings .slots) (cond b h []) ≡ 0
+    go true = r
+    go false = empty-accepted (s .settings .slots) (slots-least (s .settings) o) (slots-most (s .settings) o)
+
+module _ (s : Sampler) (g : Well s) (h : List ℕ) (r : refusalOf (s .settings .slots) h ≡ 0) where
+  values-of : InRanges (s .dimensions) (s .«n_dims») (computeCandidateOf (s .settings) (s .dimensions) (s .«n_dims») (s .word) (servedHistory s h))
+  values-of = values-made (s .settings) (s .dimensions) (s .«n_dims») (s .word) (ready s g) (servedHistory s h) (served-accepted s h (g .ok .settings) r)
+
+  fit-of : T (fitMade s h) → T (fitNumber (fitAnswer s h .number))
+  fit-of m = fit (s .settings) (s .dimensions) (s .«n_dims») (s .word) (ready s g) (servedHistory s h) (served-accepted s h (g .ok .settings) r) (search parts)
 
 pub nothing-refused : NothingRefused
 nothing-refused = record {
-  fit = λ s h t o r. fit s (well s t o) h r;
-  values = λ s h t o r. values s (well s t o) h r;
-  random = λ s d f x t o. stored-ok d (sampleRandomOf (s .word) d .value) (random-ranged (s .word) d (nonzero s (well s t o)) f x);
+  fit = λ s h t o r. fit-of s (well s t o) h r;
+  values = λ s h t o r. values-of s (well s t o) h r;
+  random = λ s d f x t o. stored-ok d (sampleRandomOf (s .word) d .value) (random-ranged (s .word) d (ready s (well s t o) .nonzero) f x);
 }

@@ -1,59 +1,25 @@
 -- The tests of a well-formed sampler, one by one, and what they say of its word, its dimensions and its places. Assumes nothing.
-use Prim.Native.Nat.{ℕ, _≤_, _<_}
-use native.Mathlib.Omega.{arith}
-use mathlib.Core.Path.{_≡_, sym}
-use mathlib.Core.Bool.{Bool, not, _&&_, _||_}
+use Prim.Native.Nat.{ℕ, _<_}
+use native.Mathlib.Nat.{pos-of-ne-zero}
+use mathlib.Core.Path.{_≡_}
+use mathlib.Core.Bool.{true, not, _||_}
 use mathlib.Core.List.{List}
-use mathlib.Core.Logic.{inl, inr}
-use lib.Dec.{T, T-not, not-T, eqb, eqb→eq, leb, ltb, ltb→lt, nltb→le}
-use lib.Ieee.Fits.{and-i, eq→eqb}
-use native.Mathlib.Nat.{eq-zero-or-pos, eq-or-lt-of-le}
-use Rattle.arith.specs.Lists.{every}
+use lib.Dec.{T, T-not, eqb, leb}
+use lib.Ieee.Bits.{is-true}
+use lib.Ieee.Fits.{and-i, and-l, eq→eqb}
 use Rattle.arith.proofs.Lists.{every-each, each-every}
-use Rattle.arith.proofs.Tests.{either}
-use Rattle.distribution.proofs.Facts.{parts}
+use Rattle.distribution.proofs.Facts.{parts, asked}
 use Rattle.rng_util.proofs.Nonzero.{Nonzero}
+use Rattle.dimensions.specs.declared.DimensionInfo.{DimensionInfo}
 use Rattle.dimensions.specs.Dimensions.{dimensionAt, dimensionsOk}
 use Rattle.dimensions.proofs.Ok.{dimensions-ok}
+use Rattle.settings.specs.declared.Settings.{Settings}
 use Rattle.settings.specs.Settings.{settingsOk}
 use Rattle.proposal.proofs.Ranges.{Formed}
-use Rattle.sampler_state.specs.declared.Place.{Place}
 use Rattle.sampler_state.specs.declared.Sampler.{Sampler}
 use Rattle.sampler_laws.specs.Laws.{Typed}
-use Rattle.sampler_state.specs.State.{placeAt, taken, holds, placeOk, trialsOnce, samplerOk}
-
--- ---- no trial has two places
-
-abbrev pub Once : List Place → Type 0
-Once places = (a b : ℕ) → a < 32 → b < 32 → T (taken (placeAt places a)) → T (taken (placeAt places b)) → placeAt places a .trial ≡ placeAt places b .trial → a ≡ b
-
--- places b and a, one trial
-abbrev twice : List Place → ℕ → ℕ → Bool
-twice places a b = taken (placeAt places b) && holds (placeAt places b .trial) (placeAt places a)
-
-once-below : (places : List Place) → T (trialsOnce places) → (a b : ℕ) → a < 32 → b < a → T (taken (placeAt places a)) → T (taken (placeAt places b))
-    → placeAt places a .trial ≡ placeAt places b .trial → ⊥
-unfolding trialsOnce
-once-below places t a b l m p q e =
-    let i : T (eqb (placeAt places a .trial) (placeAt places b .trial)) = eq→eqb e in
-    T-not (twice places a b) (every-each a (λ b. not (twice places a b)) (every-each 32 (λ a. every a (λ b. not (twice places a b))) t a l) b m) (search and-i)
-
-pub once : (places : List Place) → T (trialsOnce places) → Once places
-once places t a b la lb p q e = elim (either (ltb a b)) [
-  | inl m ↦ absurd (once-below places t b a lb (ltb→lt a b m) q p (sym e))
-  | inr m ↦ elim (eq-or-lt-of-le (nltb→le a b m)) [
-    | inl z ↦ sym z
-    | inr k ↦ absurd (once-below places t a b la k p q e)
-  ]
-]
-
-pub from-once : (places : List Place) → Once places → T (trialsOnce places)
-unfolding trialsOnce
-from-once places o =
-    each-every 32 (λ a. every a (λ b. not (twice places a b))) (λ a l. each-every a (λ b. not (twice places a b)) (λ b m. not-T (twice places a b)
-    (λ h. let e : a ≡ b = o a b l (omega arith) (search parts) (search parts) (eqb→eq (placeAt places a .trial) (placeAt places b .trial) (search parts)) in omega arith)))
-
--- ---- the sampler
+use Rattle.sampler_state.specs.State.{placeAt, taken, placeOk, samplerOk}
+use Rattle.sampler_state.proofs.Held.{Once, once, from-once}
 
 pub record Ok (s : Sampler) : Type 0 where
   pub settings : T (settingsOk (s .settings))
@@ -85,6 +51,14 @@ parts-ok s o =
     let f = from-once (s .places) (o .once) in
     search and-i depth 9
 
+-- a sampler with a taken place is active
+pub taken-active : (s : Sampler) → T (samplerOk s) → (i : ℕ) → i < 32 → T (taken (placeAt (s .places) i)) → s .active ≡ true
+unfolding placeOk
+taken-active s t i l h =
+    let q : T (placeOk (s .active) (s .dimensions) (s .«n_dims») (placeAt (s .places) i)) = ok-parts s t .places i l in
+    let r = asked (taken (placeAt (s .places) i)) _ q h in
+    is-true (s .active) (and-l (s .active) _ r)
+
 -- as a program has it, and well-formed
 pub record Well (s : Sampler) : Type 0 where
   pub typed : Typed s
@@ -93,20 +67,22 @@ pub record Well (s : Sampler) : Type 0 where
 pub well : (s : Sampler) → Typed s → T (samplerOk s) → Well s
 well s t o = record { typed = t; ok = ok-parts s o }
 
-module _ (s : Sampler) (g : Well s) where
-  pub nonzero : Nonzero (s .word)
-  nonzero = elim (eq-zero-or-pos (s .word)) [
-    | inl z ↦ absurd (T-not (eqb (s .word) 0) (g .ok .word) (eq→eqb z))
-    | inr p ↦ (p, g .typed .word)
-  ]
+-- what serving a trial needs of one
+pub record Ready (settings : Settings) (dims : List DimensionInfo) (k word : ℕ) : Type 0 where
+  pub settings-ok : T (settingsOk settings)
+  pub nonzero : Nonzero word
+  pub dimensions : T (dimensionsOk dims k)
+  pub formed : (j : ℕ) → j < k → Formed (dimensionAt dims j)
 
-  pub formed : (j : ℕ) → j < s .«n_dims» → Formed (dimensionAt (s .dimensions) j)
-  formed j l = record {
+pub ready : (s : Sampler) → Well s → Ready (s .settings) (s .dimensions) (s .«n_dims») (s .word)
+ready s g = record {
+  settings-ok = g .ok .settings;
+  nonzero = (pos-of-ne-zero (λ z. T-not (eqb (s .word) 0) (g .ok .word) (eq→eqb z)), g .typed .word);
+  dimensions = g .ok .dimensions;
+  formed = λ j l. record {
     ok = dimensions-ok (s .dimensions) (s .«n_dims») (g .ok .dimensions) .1 j l;
     held = g .typed .held j l;
     lo-fits = g .typed .ends j l .0;
     hi-fits = g .typed .ends j l .1;
-  }
-
-  pub few : s .«n_dims» ≤ 20
-  few = dimensions-ok (s .dimensions) (s .«n_dims») (g .ok .dimensions) .0
+  };
+}

@@ -1,7 +1,7 @@
 -- What is promised of the calls, for every sampler and every run. Statements only, proved in proofs/.
 use Prim.Native.Nat.{ℕ, _+_, _*_, _^_, _<_}
 use mathlib.Core.Path.{_≡_}
-use mathlib.Core.Bool.{Bool, _&&_, _||_, cond}
+use mathlib.Core.Bool.{Bool, true, _&&_, _||_, cond}
 use mathlib.Core.List.{List}
 use lib.Dec.{T, eqb, ltb}
 use lib.ListN.{length}
@@ -18,6 +18,7 @@ use Rattle.history_rows.specs.Tests.{refusalOf}
 use Rattle.settings.specs.declared.Settings.{Settings}
 use Rattle.settings.specs.Settings.{settingsOk}
 use Rattle.proposal.specs.Proposal.{computeCandidateOf}
+use Rattle.sampler_state.specs.declared.Place.{Place}
 use Rattle.sampler_state.specs.declared.Sampler.{Sampler}
 use Rattle.sampler_laws.specs.NewTrials.{newTrial, servedHistory, fitMade, fitAnswer, hasModel, continuous, choices, BestStored}
 use Rattle.sampler_laws.specs.Runs.{Asked, asks, closes, Call, callOf, answersOf, endOf, Along, Alike}
@@ -77,7 +78,9 @@ pub record NothingRefused : Type 0 where
   -- a new trial's values are made and in range: no decoding and no draw is refused, nor an exp or ln in it
   pub values : (s : Sampler) (h : List ℕ) → Typed s → T (samplerOk s) → refusalOf (s .settings .slots) h ≡ 0
       → let c = computeCandidateOf (s .settings) (s .dimensions) (s .«n_dims») (s .word) (servedHistory s h) in
-      (c .number ≡ 0) × ((j : ℕ) → j < s .«n_dims» → T (storedOk (dimensionAt (s .dimensions) j .distribution) (storedAt (record { trial = 0; values = c .values; «next_dim» = 1 }) j)))
+      let p : Place = record { taken = true; trial = 0; values = c .values; «next_dim» = 1 } in
+      (c .number ≡ 0)
+      × ((j : ℕ) → j < s .«n_dims» → T (storedOk (dimensionAt (s .dimensions) j .distribution) (storedAt p j)))
   -- nor is any other draw
   pub random : (s : Sampler) (d : Distribution) → Held d → T (shapeOf d) → Typed s → T (samplerOk s) → T (storedOk d (sampleRandomOf (s .word) d .value))
 

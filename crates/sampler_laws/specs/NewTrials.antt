@@ -20,7 +20,7 @@ use Rattle.proposal.specs.Points.{fitFor}
 use Rattle.proposal.specs.Values.{decodeOf}
 use Rattle.sampler_state.specs.declared.Sampler.{Sampler}
 use Rattle.sampler_laws.specs.Runs.{asks, closes, Call, callOf}
-use Rattle.sampler_state.specs.State.{placeAt, storedAt, trialPlace}
+use Rattle.sampler_state.specs.State.{storedAt, trialPlace, heldBy}
 
 -- ---- "a new trial is one without a place that an accepted `sample` call serves, on the call that ends discovery or later"
 
@@ -67,17 +67,20 @@ pointDrawn s c = listOf (λ j. unitOf (getD (streamOf (s .settings .«n_candidat
 
 -- ---- what is stored
 
--- the trial has a place, which holds for each continuous dimension the decoding of its coordinate: "scales each to the internal bounds as `gp.rs` does, then applies `from_internal`"
-pub record Stores (s : Sampler) (trial : ℕ) (point : List Float) : Type 0 where
-  pub placed : trialPlace (s .places) trial < 32
+-- after a call on s the trial has a place, which holds for each continuous dimension of s the decoding of its
+-- coordinate: "scales each to the internal bounds as `gp.rs` does, then applies `from_internal`"
+pub record Stores (s after : Sampler) (trial : ℕ) (point : List Float) : Type 0 where
+  pub placed : trialPlace (after .places) trial < 32
   pub decoded : (j : ℕ) → j < s .«n_dims» → T (continuousOf (dimensionAt (s .dimensions) j .distribution))
-      → storedAt (placeAt (s .places) (trialPlace (s .places) trial)) j ≡ decodeOf (dimensionAt (s .dimensions) j) (getD point (length (columnsOf (s .dimensions) j)) nan)
+      → storedAt (heldBy (after .places) trial) j
+      ≡ decodeOf (dimensionAt (s .dimensions) j) (getD point (length (columnsOf (s .dimensions) j)) nan)
 
 -- "the decoding of one point: the earliest drawn for it whose expected improvement under that model is at least that of every other one drawn for it. With no candidates it is the decoding of all 0.5."
 pub record StoresBest (s after : Sampler) (trial : ℕ) (m : Model) : Type 0 where
-  pub none : s .settings .«n_candidates» ≡ 0 → Stores after trial (replicate (continuous s) (ofBits binary64 0x3fe0000000000000))
+  pub none : s .settings .«n_candidates» ≡ 0
+      → Stores s after trial (replicate (continuous s) (ofBits binary64 0x3fe0000000000000))
   pub found : 0 < s .settings .«n_candidates»
-      → (c : ℕ) × (c < s .settings .«n_candidates») × Stores after trial (pointDrawn s c)
+      → (c : ℕ) × (c < s .settings .«n_candidates») × Stores s after trial (pointDrawn s c)
       × ((i : ℕ) → i < s .settings .«n_candidates» → T (le (scoreOf m (pointDrawn s i)) (scoreOf m (pointDrawn s c))))
       × ((i : ℕ) → i < c → T (lt (scoreOf m (pointDrawn s i)) (scoreOf m (pointDrawn s c))))
 

@@ -1,3 +1,5 @@
+mod Cases
 pub mod Checked
 pub mod Elements
+pub mod Held
 mod StoredValues

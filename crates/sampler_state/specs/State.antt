@@ -15,6 +15,7 @@ use Rattle.dimensions.specs.Dimensions.{dimensionAt, dimensionsOk}
 use Rattle.settings.specs.declared.Settings.{Settings}
 use Rattle.settings.specs.Settings.{settingsOk}
 use Rattle.dimensions.specs.Empty.{emptyStored}
+use Rattle.sampler_state.specs.declared.Found.{Found}
 use Rattle.sampler_state.specs.declared.Place.{Place}
 use Rattle.sampler_state.specs.declared.Sampler.{Sampler}
 use Rattle.sampler_state.specs.declared.Made.{Made}
@@ -25,7 +26,7 @@ abbrev pub emptyDimension : DimensionInfo
 emptyDimension = record { distribution = Distribution.Categorical (record { «n_choices» = 0 }); lo = ofBits binary64 0; hi = ofBits binary64 0 }
 
 abbrev pub emptyPlace : Place
-emptyPlace = record { trial = 0; values = filled emptyStored 20 []; «next_dim» = 0 }
+emptyPlace = record { taken = false; trial = 0; values = filled emptyStored 20 []; «next_dim» = 0 }
 
 -- ---- making one
 
@@ -46,9 +47,9 @@ makeOf s = cond (settingsOk s) (record { number = 0; sampler = freshOf s }) (rec
 abbrev pub placeAt : List Place → ℕ → Place
 placeAt places i = getD places i emptyPlace
 
--- a place whose next dimension is 0 is free
+-- the mark of a place that is taken; any other is free, whatever else stands in it
 abbrev pub taken : Place → Bool
-taken p = leb 1 (p .«next_dim»)
+taken p = p .taken
 
 abbrev pub holds : ℕ → Place → Bool
 holds trial p = taken p && eqb (p .trial) trial
@@ -59,6 +60,17 @@ trialPlace places trial = placeOf 32 (λ i. holds trial (placeAt places i))
 
 unfoldable pub freePlace : List Place → ℕ
 freePlace places = placeOf 32 (λ i. not (taken (placeAt places i)))
+
+-- the place that a trial has: of 32 places the empty one where it has none
+abbrev pub heldBy : List Place → ℕ → Place
+heldBy places trial = placeAt places (trialPlace places trial)
+
+-- where a trial's place is written: its own, else the first free one; 32 where there is neither
+unfoldable pub spotFor : List Place → ℕ → ℕ
+spotFor places trial = cond (ltb (trialPlace places trial) 32) (trialPlace places trial) (freePlace places)
+
+abbrev pub foundFor : List Place → ℕ → Found
+foundFor places trial = record { place = heldBy places trial; spot = spotFor places trial }
 
 -- how many are taken
 unfoldable pub takenCount : List Place → ℕ
@@ -84,9 +96,15 @@ storedOk (Distribution.Categorical d) (ParamValue.Refused n) = false
 abbrev pub storedAt : Place → ℕ → ParamValue
 storedAt p j = getD (p .values) j emptyStored .value
 
--- free, or of an active sampler, with its next dimension up to the count and a value in range for each dimension
+-- a next dimension from 1 to the count, and a value in range for each dimension
+abbrev pub progressOk : List DimensionInfo → ℕ → Place → Bool
+progressOk dims k p =
+    leb 1 (p .«next_dim») && leb (p .«next_dim») k
+    && every k (λ j. storedOk (dimensionAt dims j .distribution) (storedAt p j))
+
+-- free, or of an active sampler and so far in its dimensions
 unfoldable pub placeOk : Bool → List DimensionInfo → ℕ → Place → Bool
-placeOk active dims k p = not (taken p) || (active && leb (p .«next_dim») k && every k (λ j. storedOk (dimensionAt dims j .distribution) (storedAt p j)))
+placeOk active dims k p = not (taken p) || (active && progressOk dims k p)
 
 unfoldable pub trialsOnce : List Place → Bool
 trialsOnce places = every 32 (λ a. every a (λ b. not (taken (placeAt places b) && holds (placeAt places b .trial) (placeAt places a))))

@@ -8,7 +8,8 @@ ghost use lib.Signed.{leZ};
 ghost use Rattle.arith.specs.Lists.{every};
 ghost use Rattle.dimensions.specs.Dimensions.{dimensionAt};
 ghost use Rattle.dimensions.specs.Empty.{emptyStored};
-ghost use Rattle.sampler_state.specs.State.{placeAt, taken, holds, storedOk, placeOk, trialsOnce, samplerOk};
+ghost use Rattle.sampler_state.specs.State.{placeAt, taken, holds, trialsOnce};
+ghost use Rattle.sampler_state.specs.State.{storedOk, progressOk, placeOk, samplerOk};
 use crate::Place;
 use crate::Sampler;
 use crate::places;
@@ -67,6 +68,21 @@ fn values_ok(dims: [DimensionInfo; 20], k: usize, values: [Stored; 20]) -> bool
     true
 }
 
+// Whether a place's next dimension is from 1 to the count, and each of its values in range.
+fn progress_ok(dims: [DimensionInfo; 20], k: usize, p: Place) -> bool
+    requires { ⌜ k ≤ 20 ⌝ }
+    ensures { λ r. ⌜ r ≡ progressOk dims k p ⌝ }
+{
+    if p.next_dim < 1 {
+        return false;
+    }
+    if p.next_dim > k {
+        return false;
+    }
+    let values = p.values;
+    values_ok(dims, k, values)
+}
+
 // Whether a place is free, or a place of an active sampler of these dimensions.
 fn place_ok(active: bool, dims: [DimensionInfo; 20], k: usize, p: Place) -> bool
     requires { ⌜ k ≤ 20 ⌝ }
@@ -78,11 +94,7 @@ fn place_ok(active: bool, dims: [DimensionInfo; 20], k: usize, p: Place) -> bool
     if !active {
         return false;
     }
-    if p.next_dim > k {
-        return false;
-    }
-    let values = p.values;
-    values_ok(dims, k, values)
+    progress_ok(dims, k, p)
 }
 
 // Whether each place is.

@@ -8,13 +8,15 @@ use dimensions::DimensionInfo;
 use dimensions::Stored;
 pub use making::build;
 pub use making::empty_place;
+pub use places::find;
 pub use places::free_place;
 pub use places::taken_count;
 pub use places::trial_place;
 use settings::Settings;
 
-// A progress place: the trial, its values and the dimension to serve next, 0 where the place is free.
+// A progress place: whether it is taken, the trial, its values and the dimension to serve next.
 pub struct Place {
+    pub taken: bool,
     pub trial: u64,
     pub values: [Stored; 20],
     pub next_dim: usize,
@@ -29,6 +31,12 @@ pub struct Sampler {
     pub dimensions: [DimensionInfo; 20],
     pub n_dims: usize,
     pub places: [Place; 32],
+}
+
+// What is found for a trial: its place, or the empty one, and where its place is written, 32 where there is no room.
+pub struct Found {
+    pub place: Place,
+    pub spot: usize,
 }
 
 // A sampler made: number is 0, or 1 with no sampler in it.

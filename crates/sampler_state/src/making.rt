@@ -19,6 +19,7 @@ pub fn empty_place() -> Place
         value: ParamValue::Float(0.0),
     }; 20];
     Place {
+        taken: false,
         trial: 0,
         values,
         next_dim: 0,

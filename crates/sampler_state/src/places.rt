@@ -1,24 +1,23 @@
 // The progress places.
 ghost use mathlib.Core.Path.{_≡_};
 ghost use mathlib.Core.Bool.{cond};
-ghost use Prim.Native.Nat.{_<_};
-ghost use Rattle.sampler_state.specs.State.{taken, holds, trialPlace, freePlace, takenCount};
+ghost use Rattle.sampler_state.specs.State.{taken, holds, trialPlace, freePlace, foundFor, takenCount};
+use crate::Found;
 use crate::Place;
-use dimensions::Stored;
-use distribution::ParamValue;
+use crate::making;
 
 // Whether a place is taken.
 pub(crate) fn is_taken(p: Place) -> bool
     ensures { λ r. ⌜ r ≡ taken p ⌝ }
 {
-    1 <= p.next_dim
+    p.taken
 }
 
 // Whether it is taken by that trial.
 pub(crate) fn is_held(trial: u64, p: Place) -> bool
     ensures { λ r. ⌜ r ≡ holds trial p ⌝ }
 {
-    1 <= p.next_dim && p.trial == trial
+    p.taken && p.trial == trial
 }
 
 // The place of a trial, or 32.
@@ -47,6 +46,23 @@ pub fn free_place(places: [Place; 32]) -> usize
         i += 1;
     }
     32
+}
+
+// The place that a trial has, or the empty one, and where it is written: its own, else the first free one, or 32.
+pub fn find(places: [Place; 32], trial: u64) -> Found
+    ensures { λ r. ⌜ r ≡ foundFor places trial ⌝ }
+{
+    let i = trial_place(places, trial);
+    if i >= 32 {
+        return Found {
+            place: making::empty_place(),
+            spot: free_place(places),
+        };
+    }
+    Found {
+        place: places[i],
+        spot: i,
+    }
 }
 
 // 1 for a place that is taken, else 0.

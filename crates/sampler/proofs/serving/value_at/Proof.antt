@@ -1,12 +1,12 @@
--- `sampler::places::value_at` meets its contract. Assumes nothing.
+-- `sampler::serving::value_at` meets its contract. Assumes nothing.
 use mathlib.Core.Path.{_≡_, ap}
 use lib.ListN.{length}
 use Rattle.dimensions.specs.declared.Stored.{Stored}
 use Rattle.dimensions.specs.Empty.{emptyStored}
 use Rattle.sampler_state.proofs.Elements.{same-element}
 use borrow.Author.Needs.{needs}
-use Rattle.sampler.proofs.places.value_at.Statement.{statement}
-use Rattle.sampler.proofs.places.value_at.Tie as tie
+use Rattle.sampler.proofs.serving.value_at.Statement.{statement}
+use Rattle.sampler.proofs.serving.value_at.Tie as tie
 
 mul-stored : tie.Need-mul-stored
 mul-stored c = search needs
