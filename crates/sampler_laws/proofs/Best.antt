@@ -19,12 +19,12 @@ use Rattle.proposal.proofs.Decoded.{Decodes, stores-earliest}
 use Rattle.sampler_state.specs.declared.Place.{Place}
 use Rattle.sampler_state.specs.declared.Sampler.{Sampler}
 use Rattle.sampler_state.specs.State.{trialPlace, heldBy}
-use Rattle.sampler_state.proofs.Held.{own-or-none, held-own, put-new}
+use Rattle.sampler_state.proofs.Held.{own-or-none, put-new}
 use Rattle.sampler_laws.specs.declared.Serving.{Serving}
 use Rattle.sampler_laws.specs.Calls.{newTrialOf, servingOf, spotOf}
 use Rattle.sampler_laws.specs.NewTrials.{pastDiscovery, newTrial, servedHistory, hasModel, fitMade, fitAnswer, pointDrawn, Stores, BestStored}
 use Rattle.sampler_laws.specs.Runs.{Asked, asks, closes, Call, callOf}
-use Rattle.sampler_laws.proofs.OneTrial.{serving-own}
+use Rattle.sampler_laws.proofs.OneTrial.{serves-own}
 use Rattle.sampler_laws.proofs.Ways.{servedNow, refusing-some, by-sample}
 
 -- ---- an accepted new trial
@@ -42,9 +42,8 @@ filled s n d trial h past none =
     by-sample s d trial h (λ r. r .number ≡ 0 → Filled s trial h (r .sampler)) (λ m x e. absurd (refusing-some x e)) (λ r _ a _ _. absurd (true≢false (sym past ∙ a)))
     (λ r _ _ l z _.
     let v = servedNow s r trial h in
-    let own = serving-own (s .settings) (s .dimensions) (s .«n_dims») (s .word) (heldBy (s .places) trial) r trial (servedHistory s h) (held-own (s .places) n trial) in
     let new : v ≡ newTrialOf (s .settings) (s .dimensions) (s .«n_dims») (s .word) trial (servedHistory s h) = is-new r in
-    let at = put-new (s .places) n (spotOf s trial) l (v .place) trial none own in
+    let at = put-new (s .places) n (spotOf s trial) l (v .place) trial none (serves-own s n r trial (servedHistory s h)) in
     record {
       number = ap (λ (x : Serving). x .number) (sym new) ∙ z;
       placed = subst (λ (i : ℕ). i < 32) (sym (at .0)) l;

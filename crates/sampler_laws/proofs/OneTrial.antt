@@ -27,9 +27,11 @@ use Rattle.proposal.specs.Proposal.{computeCandidateOf}
 use Rattle.proposal.proofs.Moving.{compute-moves}
 use Rattle.proposal.proofs.WordCount.{Drawable, random-word, compute-words}
 use Rattle.sampler_state.specs.declared.Place.{Place}
-use Rattle.sampler_state.specs.State.{taken, holds, storedOk, storedAt, progressOk}
+use Rattle.sampler_state.specs.declared.Sampler.{Sampler}
+use Rattle.sampler_state.specs.State.{heldBy, taken, holds, storedOk, storedAt, progressOk}
+use Rattle.sampler_state.proofs.Held.{held-own}
 use Rattle.sampler_laws.specs.declared.Serving.{Serving}
-use Rattle.sampler_laws.specs.Calls.{nextOf, pastOf, newTrialOf, servingOf}
+use Rattle.sampler_laws.specs.Calls.{nextOf, pastOf, newTrialOf, servingOf, servingFor}
 use Rattle.sampler_laws.proofs.Nothing.{values-made}
 use Rattle.sampler_laws.proofs.Parts.{Ready}
 
@@ -63,7 +65,7 @@ module _ (settings : Settings) (dims : List DimensionInfo) (k word : ℕ) (p : P
   serving-nonzero z = subst Nonzero (sym serving-moves) (moved-nonzero (served .drawn) word z)
 
   -- the place after it is the trial's
-  pub serving-own : (T (taken p) → T (holds trial p)) → T (holds trial (served .place))
+  serving-own : (T (taken p) → T (holds trial p)) → T (holds trial (served .place))
   serving-own own = by-serving (λ r. T (holds trial (r .place))) (λ t _. own (passed t)) (λ t _. own (passed t)) (λ _. eqb-refl trial)
 
   -- how many words it takes: none for a stored value, one past the last, and those of a new trial's values
@@ -90,3 +92,7 @@ module _ (settings : Settings) (dims : List DimensionInfo) (k word : ℕ) (p : P
 
       further : T (progressOk dims k p) → p .«next_dim» < k → T (progressOk dims k (nextOf word p .place))
       further o l = progress (nextOf word p .place) (omega arith) (omega arith) (search parts)
+
+-- a trial of this sampler is left a place of its own
+pub serves-own : (s : Sampler) → length (s .places) ≡ 32 → (d : Distribution) (trial : ℕ) (h : List ℕ) → T (holds trial (servingFor s d trial h .place))
+serves-own s n d trial h = serving-own (s .settings) (s .dimensions) (s .«n_dims») (s .word) (heldBy (s .places) trial) d trial h (held-own (s .places) n trial)

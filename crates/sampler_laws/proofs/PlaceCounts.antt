@@ -26,13 +26,13 @@ use Rattle.proposal.specs.Proposal.{fromPoint, atRandom, candidateOf, candidate
 use Rattle.sampler_state.specs.declared.Place.{Place}
 use Rattle.sampler_state.specs.declared.Sampler.{Sampler}
 use Rattle.sampler_state.specs.State.{trialPlace, heldBy, takenCount, samplerOk}
-use Rattle.sampler_state.proofs.Held.{held-own, spot-count, emptied-count, no-spot, all-taken, full-no-spot}
+use Rattle.sampler_state.proofs.Held.{spot-count, emptied-count, no-spot, all-taken, full-no-spot}
 use Rattle.sampler_laws.specs.declared.Sampled.{Sampled}
 use Rattle.sampler_laws.specs.Calls.{activeOf, servedOf, sampleOf}
 use Rattle.sampler_laws.specs.Laws.{PlacesCounted}
 use Rattle.sampler_laws.specs.NewTrials.{pastDiscovery, newTrial, servedHistory}
 use Rattle.sampler_laws.specs.Runs.{Asked, asks, closes, callOf}
-use Rattle.sampler_laws.proofs.OneTrial.{by-serving, serving-own}
+use Rattle.sampler_laws.proofs.OneTrial.{by-serving, serves-own}
 use Rattle.sampler_laws.proofs.Parts.{taken-active}
 use Rattle.sampler_laws.proofs.Ways.{readAsked, Refusing, malformed-sampler, malformed-asked, bad-history, no-dimension, no-place, no-values, refusing-some, by-sample, by-close}
 
@@ -52,7 +52,7 @@ module _ (s : Sampler) (n : length (s .places) ≡ 32) where
       (λ m x. rw (ne-eqb m 0 (refusing-some x)) (no-more (takenCount (s .places))))
       (λ r _ a _. rw a (no-more (takenCount (s .places))))
       (λ r _ a l _.
-      rw a (spot-count (s .places) n trial _ l (serving-own (s .settings) (s .dimensions) (s .«n_dims») (s .word) (heldBy (s .places) trial) r trial (servedHistory s h) (held-own (s .places) n trial))))
+      rw a (spot-count (s .places) n trial _ l (serves-own s n r trial (servedHistory s h))))
 
   closed : (trial : ℕ) → takenCount (callOf s (closes trial) .sampler .places) + cond (eqb (callOf s (closes trial) .number) 0) 1 0 ≡ takenCount (s .places)
   closed trial =

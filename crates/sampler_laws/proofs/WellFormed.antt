@@ -22,7 +22,7 @@ use Rattle.settings.specs.Settings.{settingsOk}
 use Rattle.sampler_state.specs.declared.Place.{Place}
 use Rattle.sampler_state.specs.declared.Sampler.{Sampler}
 use Rattle.sampler_state.specs.State.{emptyPlace, freshOf, placeAt, taken, heldBy, progressOk, samplerOk}
-use Rattle.sampler_state.proofs.Held.{Once, own-or-none, held-own, spot-once, emptied-once}
+use Rattle.sampler_state.proofs.Held.{Once, own-or-none, spot-once, emptied-once}
 use Rattle.sampler_laws.specs.declared.Sampled.{Sampled}
 use Rattle.sampler_laws.specs.declared.Serving.{Serving}
 use Rattle.sampler_laws.specs.Calls.{withPlace, activated, withDimension, writtenOf, spotOf}
@@ -32,7 +32,7 @@ use Rattle.sampler_laws.specs.Runs.{Asked, asks, closes, Call, callOf, A
 use Rattle.sampler_laws.proofs.Asked.{read-held}
 use Rattle.sampler_laws.proofs.Changes.{free-ok, taken-ok, ok-taken, dimension-formed, with-word, with-place, ended, with-dimension}
 use Rattle.sampler_laws.proofs.Nothing.{served-accepted, refusal-small}
-use Rattle.sampler_laws.proofs.OneTrial.{serving-nonzero, serving-own, serving-ranged}
+use Rattle.sampler_laws.proofs.OneTrial.{serving-nonzero, serving-ranged, serves-own}
 use Rattle.sampler_laws.proofs.Parts.{Well, well, parts-ok, ready}
 use Rattle.sampler_laws.proofs.Ways.{Passed, servedNow, Refusing, malformed-sampler, malformed-asked, bad-history, no-dimension, no-place, no-values, discovering, is-activated, by-sample, by-close}
 
@@ -78,7 +78,7 @@ module _ (s : Sampler) (g : Well s) where
         let lent = servedHistory s h in
         let z = ready s g in
         let x = serving-ranged (s .settings) (s .dimensions) (s .«n_dims») (s .word) q r trial lent z (leb→le 1 (s .«n_dims») (w .ok .some)) (served-accepted s h (g .ok .settings) (p .history)) (held-ok trial) in
-        let own = serving-own (s .settings) (s .dimensions) (s .«n_dims») (s .word) q r trial lent (held-own (s .places) (g .typed .places) trial) in (
+        let own = serves-own s (g .typed .places) r trial lent in (
           x .0,
           λ l. put-well (activated s) w refl (spotOf s trial) (servedNow s r trial h) l (x .1) (serving-nonzero (s .settings) (s .dimensions) (s .«n_dims») (s .word) q r trial lent (z .nonzero))
               (spot-once (s .places) (g .typed .places) (g .ok .once) trial _ l own),

@@ -6,7 +6,7 @@ use mathlib.Core.Bool.{Bool, true, false, not, _&&_, cond}
 use mathlib.Core.List.{List}
 use mathlib.Core.Logic.{_⊎_, inl, inr}
 use lib.Dec.{T, T-not, not-T, eqb, eqb→eq, eqb-refl, ltb}
-use lib.ListN.{length, set, List·getD-eq-default}
+use lib.ListN.{length, set, length-set, List·getD-eq-default}
 use lib.Seq.{getD-set-same, getD-set-other}
 use lib.Ieee.Bits.{is-true, is-false}
 use lib.Ieee.Fits.{and-l, and-r, and-i, eq→eqb}
@@ -267,3 +267,21 @@ module _ (ps : List Place) where
     pub emptied-once : (t : ℕ) → trialPlace ps t < 32 → Once (set ps (trialPlace ps t) emptyPlace)
     emptied-once t l =
         once-put (trialPlace ps t) l emptyPlace (λ z. absurd z) (λ u b x. (holds-one t u (heldBy ps t) (λ e. x (ap (trialPlace ps) e)) (found-holds ps t l), refl))
+
+    -- and the trial then has none
+    pub emptied-own : (t : ℕ) → trialPlace ps t < 32 → trialPlace (set ps (trialPlace ps t) emptyPlace) t ≡ 32
+    emptied-own t l = elim (own-or-none after (length-set ps i emptyPlace ∙ n) t) [ inl w ↦ absurd (again w) | inr w ↦ w .none ]
+      where
+        i : ℕ
+        i = trialPlace ps t
+
+        after : List Place
+        after = set ps i emptyPlace
+
+        -- its first place after would be one of its places before
+        again : Own after t → ⊥
+        again w =
+            let j = trialPlace after t in
+            let x : j ≡ i → ⊥ = emptied-none ps n t l t in
+            let h = subst (λ (q : Place). T (holds t q)) (there ps n i l emptyPlace j x) (w .held) in
+            x (sym (o j (w .below) (and-l (takenAt ps j) (eqb (placeAt ps j .trial) t) h)) ∙ ap (trialPlace ps) (eqb→eq (placeAt ps j .trial) t (and-r (takenAt ps j) (eqb (placeAt ps j .trial) t) h)))
