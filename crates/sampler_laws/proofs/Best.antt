@@ -18,13 +18,13 @@ use Rattle.dimensions.specs.Empty.{emptyStored}
 use Rattle.proposal.proofs.Decoded.{Decodes, stores-earliest}
 use Rattle.sampler_state.specs.declared.Place.{Place}
 use Rattle.sampler_state.specs.declared.Sampler.{Sampler}
-use Rattle.sampler_state.specs.State.{trialPlace, heldBy}
+use Rattle.sampler_state.specs.State.{taken, trialPlace, heldBy}
 use Rattle.sampler_state.proofs.Held.{own-or-none, put-new}
 use Rattle.sampler_laws.specs.declared.Serving.{Serving}
-use Rattle.sampler_laws.specs.Calls.{newTrialOf, servingOf, spotOf}
+use Rattle.sampler_laws.specs.Calls.{newTrialOf, spotOf}
 use Rattle.sampler_laws.specs.NewTrials.{pastDiscovery, newTrial, servedHistory, hasModel, fitMade, fitAnswer, pointDrawn, Stores, BestStored}
 use Rattle.sampler_laws.specs.Runs.{Asked, asks, closes, Call, callOf}
-use Rattle.sampler_laws.proofs.OneTrial.{serves-own}
+use Rattle.sampler_laws.proofs.OneTrial.{serving-new, serves-own}
 use Rattle.sampler_laws.proofs.Ways.{servedNow, refusing-some, by-sample}
 
 -- ---- an accepted new trial
@@ -37,7 +37,6 @@ record Filled (s : Sampler) (trial : ℕ) (h : List ℕ) (after : Sampler) : Typ
 
 filled : (s : Sampler) → length (s .places) ≡ 32 → (d : Asked) (trial : ℕ) (h : List ℕ) → pastDiscovery s trial ≡ true → trialPlace (s .places) trial ≡ 32 → callOf s (asks d trial h) .number ≡ 0
     → Filled s trial h (callOf s (asks d trial h) .sampler)
-unfolding servingOf
 filled s n d trial h past none =
     by-sample s d trial h (λ r. r .number ≡ 0 → Filled s trial h (r .sampler)) (λ m x e. absurd (refusing-some x e)) (λ r _ a _ _. absurd (true≢false (sym past ∙ a)))
     (λ r _ _ l z _.
@@ -54,7 +53,7 @@ filled s n d trial h past none =
     is-new : (r : Distribution) → servedNow s r trial h ≡ newTrialOf (s .settings) (s .dimensions) (s .«n_dims») (s .word) trial (servedHistory s h)
     is-new r = elim (own-or-none (s .places) n trial) [
       | inl o ↦ (let l = o .below in absurd (omega (arith, none)))
-      | inr o ↦ ap (λ (p : Place). servingOf (s .settings) (s .dimensions) (s .«n_dims») (s .word) p r trial (servedHistory s h)) (o .empty)
+      | inr o ↦ serving-new (s .settings) (s .dimensions) (s .«n_dims») (s .word) (heldBy (s .places) trial) r trial (servedHistory s h) (ap taken (o .empty))
     ]
 
 -- ---- what its place holds

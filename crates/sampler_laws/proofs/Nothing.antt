@@ -45,7 +45,7 @@ use Rattle.sampler_laws.proofs.Parts.{Well, well, Ready, ready}
 
 -- ---- a value in range is one that a place may hold
 
-stored-ok : (d : Distribution) (v : ParamValue) → InRange d v → T (storedOk d v)
+pub stored-ok : (d : Distribution) (v : ParamValue) → InRange d v → T (storedOk d v)
 unfolding takenOf
 stored-ok (Distribution.Float d) (ParamValue.Float v) r = r .taken
 stored-ok (Distribution.Float d) (ParamValue.Int v) r = r .taken

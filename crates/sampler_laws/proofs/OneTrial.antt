@@ -9,11 +9,12 @@ use lib.ListN.{length}
 use lib.Ieee.Fits.{and-i}
 use borrow.Author.Tests.{ltb-true, ltb-false, lt-ltb, le-ltb}
 use Rattle.arith.specs.Lists.{every}
-use Rattle.arith.proofs.Lists.{each-every}
+use Rattle.arith.proofs.Lists.{each-every, every-each}
 use Rattle.arith.proofs.Tests.{taken as passed, by-test}
 use Rattle.rng_util.specs.Generator.{movedOf}
 use Rattle.rng_util.proofs.Nonzero.{Nonzero, moved-nonzero}
 use Rattle.distribution.specs.declared.Distribution.{Distribution}
+use Rattle.distribution.specs.Shape.{shapeOf}
 use Rattle.distribution.proofs.Facts.{parts}
 use Rattle.distribution_words.specs.RoundTrip.{Held}
 use Rattle.common.proofs.Moves.{random-moves}
@@ -23,8 +24,10 @@ use Rattle.history_rows.specs.Tests.{refusalOf}
 use Rattle.history_view.specs.View.{viewOf}
 use Rattle.settings.specs.declared.Settings.{Settings}
 use Rattle.proposal.specs.Points.{fitFor}
-use Rattle.proposal.specs.Proposal.{computeCandidateOf}
+use Rattle.param_mapping.specs.Mapping.{numberOf}
+use Rattle.proposal.specs.Proposal.{candidateNumber, computeCandidateOf}
 use Rattle.proposal.proofs.Moving.{compute-moves}
+use Rattle.proposal.proofs.Ranges.{random-ranged}
 use Rattle.proposal.proofs.WordCount.{Drawable, random-word, compute-words}
 use Rattle.sampler_state.specs.declared.Place.{Place}
 use Rattle.sampler_state.specs.declared.Sampler.{Sampler}
@@ -32,14 +35,16 @@ use Rattle.sampler_state.specs.State.{heldBy, taken, holds, storedOk, storedAt,
 use Rattle.sampler_state.proofs.Held.{held-own}
 use Rattle.sampler_laws.specs.declared.Serving.{Serving}
 use Rattle.sampler_laws.specs.Calls.{nextOf, pastOf, newTrialOf, servingOf, servingFor}
-use Rattle.sampler_laws.proofs.Nothing.{values-made}
+use Rattle.sampler_laws.proofs.Nothing.{stored-ok, values-made}
 use Rattle.sampler_laws.proofs.Parts.{Ready}
 
--- it sees a history only through a new trial's values
-pub serving-same : (settings : Settings) (dims : List DimensionInfo) (k word : ℕ) (p : Place) (d : Distribution) (trial : ℕ) (g h : List ℕ) → computeCandidateOf settings dims k word g ≡ computeCandidateOf settings dims k word h
+-- it sees a history only through its number and its view
+pub serving-same : (settings : Settings) (dims : List DimensionInfo) (k word : ℕ) (p : Place) (d : Distribution) (trial : ℕ) (g h : List ℕ)
+    → numberOf (settings .slots) dims k g ≡ numberOf (settings .slots) dims k h
+    → viewOf (settings .slots) (settings .«n_startup_trials») dims k g ≡ viewOf (settings .slots) (settings .«n_startup_trials») dims k h
     → servingOf settings dims k word p d trial g ≡ servingOf settings dims k word p d trial h
-unfolding servingOf
-serving-same settings dims k word p d trial g h e = rw e
+unfolding servingOf computeCandidateOf candidateNumber
+serving-same settings dims k word p d trial g h n v = rw (v, n)
 
 -- the words of a new trial's values: "the dimension count, or with a model candidates × continuous + choices"
 abbrev pub newWords : Settings → List DimensionInfo → ℕ → List ℕ → ℕ
@@ -68,6 +73,11 @@ module _ (settings : Settings) (dims : List DimensionInfo) (k word : ℕ) (p : P
   serving-own : (T (taken p) → T (holds trial p)) → T (holds trial (served .place))
   serving-own own = by-serving (λ r. T (holds trial (r .place))) (λ t _. own (passed t)) (λ t _. own (passed t)) (λ _. eqb-refl trial)
 
+  -- where the trial has no place, it is a new one
+  pub serving-new : taken p ≡ false → served ≡ newTrialOf settings dims k word trial h
+  unfolding servingOf
+  serving-new e = rw e
+
   -- how many words it takes: none for a stored value, one past the last, and those of a new trial's values
   pub serving-words : Nonzero word → ((j : ℕ) → j < k → Held (dimensionAt dims j .distribution)) → Drawable d → served .number ≡ 0
       → served .drawn ≡ cond (taken p) (cond (ltb (p .«next_dim») k) 0 1) (newWords settings dims k h)
@@ -92,6 +102,20 @@ module _ (settings : Settings) (dims : List DimensionInfo) (k word : ℕ) (p : P
 
       further : T (progressOk dims k p) → p .«next_dim» < k → T (progressOk dims k (nextOf word p .place))
       further o l = progress (nextOf word p .place) (omega arith) (omega arith) (search parts)
+
+  -- the distribution that is answered for: the dimension's, or past the last the one asked
+  abbrev answered : Distribution
+  answered = cond (taken p) (cond (ltb (p .«next_dim») k) (dimensionAt dims (p .«next_dim») .distribution) d) (dimensionAt dims 0 .distribution)
+
+  -- and the value is in its range
+  pub serving-valued : Ready settings dims k word → 1 ≤ k → refusalOf (settings .slots) h ≡ 0 → (T (taken p) → T (progressOk dims k p)) → Held d → T (shapeOf d) → T (storedOk answered (served .value))
+  serving-valued g some r ok held shape =
+      by-serving (λ r. T (storedOk answered (r .value))) (λ t l. rw (t, lt-ltb (p .«next_dim») k l) (inside (ok (passed t)) l))
+      (λ t l. rw (t, le-ltb (p .«next_dim») k l) (stored-ok d _ (random-ranged word d (g .nonzero) held shape)))
+      (λ t. rw t (values-made settings dims k word g h r .1 0 some))
+    where
+      inside : T (progressOk dims k p) → p .«next_dim» < k → T (storedOk (dimensionAt dims (p .«next_dim») .distribution) (storedAt p (p .«next_dim»)))
+      inside o l = every-each k (λ j. storedOk (dimensionAt dims j .distribution) (storedAt p j)) (search parts) (p .«next_dim») l
 
 -- a trial of this sampler is left a place of its own
 pub serves-own : (s : Sampler) → length (s .places) ≡ 32 → (d : Distribution) (trial : ℕ) (h : List ℕ) → T (holds trial (servingFor s d trial h .place))

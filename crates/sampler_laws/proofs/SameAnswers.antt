@@ -9,7 +9,6 @@ use Rattle.history_view.specs.Agree.{Agree}
 use Rattle.param_mapping.specs.Mapping.{numberOf}
 use Rattle.history_view.proofs.Order.{order-free}
 use Rattle.settings.specs.declared.Settings.{Settings}
-use Rattle.proposal.specs.Proposal.{candidateNumber, computeCandidateOf}
 use Rattle.sampler_state.specs.declared.Sampler.{Sampler}
 use Rattle.sampler_state.specs.State.{heldBy}
 use Rattle.sampler_laws.specs.declared.Sampled.{Sampled}
@@ -32,13 +31,9 @@ module _ (s : Sampler) (g h : List ℕ) (a : Agree (s .settings .slots) (s .sett
   unfolding numberOf
   number-same = rw (order-free .refusal n startup g h a)
 
-  candidate-same : computeCandidateOf (s .settings) (s .dimensions) (s .«n_dims») (s .word) g ≡ computeCandidateOf (s .settings) (s .dimensions) (s .«n_dims») (s .word) h
-  unfolding computeCandidateOf candidateNumber
-  candidate-same = rw (order-free .view n startup (s .dimensions) (s .«n_dims») g h a, number-same)
-
   active-same : (d : Distribution) (trial : ℕ) → activeOf s d trial g ≡ activeOf s d trial h
   unfolding activeOf
-  active-same d trial = rw (serving-same (s .settings) (s .dimensions) (s .«n_dims») (s .word) (heldBy (s .places) trial) d trial g h candidate-same)
+  active-same d trial = rw (serving-same (s .settings) (s .dimensions) (s .«n_dims») (s .word) (heldBy (s .places) trial) d trial g h number-same (order-free .view n startup (s .dimensions) (s .«n_dims») g h a))
 
   served-same : (d : Distribution) (trial : ℕ) → servedOf s d trial g ≡ servedOf s d trial h
   unfolding servedOf
