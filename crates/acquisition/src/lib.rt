@@ -1,4 +1,6 @@
 // The normal distribution and expected improvement, with the Rust's names and constants.
+#![tactic(auto)]
+
 ghost use Rattle.std.specs.Prelude.{◌≡◌};
 ghost use Rattle.arith.specs.declared.Outcome.TheVariants.{Value};
 ghost use Rattle.acquisition.specs.Accepts.{ImprovementAccepts};

@@ -15,6 +15,8 @@ use Rattle.arith.proofs.Held.{held}
 -- ---- adding what is not below 0
 held-rounded : (x : Float) → T (fits binary64 x) → T (finite x) → Rounded x (num⁺ x) (num⁻ x) (den x)
 held-rounded (fin s m e) t F = record { sign = s; size = m * up e; is = sym (held binary64 s m e t); value = add_comm (P s (m * up e)) (N s (m * up e)) }
+held-rounded nan t F = elim F [ ]
+held-rounded (inf _) t F = elim F [ ]
 
 not-below : (x : Float) → T (finite x) → Sign false x → num⁻ x ≤ num⁺ x
 unfolding of_bits
@@ -45,6 +47,8 @@ mul-unit u (fin s m e) w t F =
   where
     same : mul binary64 (fin false 1 (pos 0)) (fin false m e) ≡ fin false m e
     same = unfold mul in rw (one-mul (m * up e), one-mul (down e)) (held binary64 false m e (either-sign binary64 s m e t))
+mul-unit u nan w t F = elim F [ ]
+mul-unit u (inf _) w t F = elim F [ ]
 
 -- ---- hi - lo, for lo and hi of at most b in size
 num⁺-le : (x : Float) → num⁺ x ≤ num x
@@ -62,24 +66,43 @@ num⁻-le (fin false m e) = zero-le
 pub within-cross : (b x : Float) → T (bound b) → Within b x → num x * den b ≤ num b * den x
 unfolding le
 within-cross (fin false n d) (fin s m e) B w = cross m e n d w
+within-cross nan _ B w = elim B [ ]
+within-cross (inf _) _ B w = elim B [ ]
+within-cross (fin false n d) nan B w = elim w [ ]
+within-cross (fin false n d) (inf _) B w = elim w [ ]
+within-cross (fin true n d) _ B w = elim B [ ]
 
 -- a bound is finite and not below 0
 plain : (x : Float) → T (bound x) → (num⁺ x ≡ num x) × (num⁻ x ≡ 0)
 plain (fin false m e) B = (refl, refl)
+plain nan B = elim B [ ]
+plain (inf _) B = elim B [ ]
+plain (fin true m e) B = elim B [ ]
 
 pub bound-finite : (x : Float) → T (bound x) → T (finite x)
 bound-finite (fin false m e) B = tt
+bound-finite nan B = elim B [ ]
+bound-finite (inf _) B = elim B [ ]
+bound-finite (fin true m e) B = elim B [ ]
 
 bound-within : (x : Float) → T (bound x) → Within x x
 unfolding is_nan
 bound-within (fin false m e) B = order.reflexive (fin false m e) tt
+bound-within nan B = elim B [ ]
+bound-within (inf _) B = elim B [ ]
+bound-within (fin true m e) B = elim B [ ]
 
 bound-neg : (x : Float) → T (bound x) → T (le (neg x) (of_bits binary64 0))
 unfolding le neg of_bits
 bound-neg (fin false m e) B = order.→le true (m * up e * 1) false (0 * 1 * down e) tt
+bound-neg nan B = elim B [ ]
+bound-neg (inf _) B = elim B [ ]
+bound-neg (fin true m e) B = elim B [ ]
 
 bound-abs : (x : Float) → T (finite x) → T (bound (abs x))
 bound-abs (fin s m e) F = tt
+bound-abs nan F = elim F [ ]
+bound-abs (inf _) F = elim F [ ]
 
 -- the size of u - v, for v ≤ u
 apart : (g : Bool) (n u v : ℕ) → P g n + v ≡ N g n + u → v ≤ u → n + v ≡ u
@@ -113,6 +136,9 @@ sums a⁺ a⁻ p b⁺ b⁻ p' w q k r n t d e c =
 
 difference-within : (b x y : Float) → T (bound b) → Within b x → Within b y → Within (add binary64 b b) (sub binary64 x y)
 difference-within (fin false m e) x y B p q = sub_within binary64 m m e e x y p q
+difference-within nan x y B p q = elim B [ ]
+difference-within (inf _) x y B p q = elim B [ ]
+difference-within (fin true m e) x y B p q = elim B [ ]
 
 -- what is computed of the bounds: 2 b is finite; it is below 2 ^ t, and 2 ^ (t - 54) is c at most
 abbrev pub Doubles : Float → Bool

@@ -18,6 +18,8 @@ bits f (fin t m e) s a c C v =
     ∙ ap (written f s)
     (div_same (m * up e * 2 ^ low f) (down e) (a * 2 ^ low f) c (down_pos e) C
     (mul_right_comm (m * up e) (2 ^ low f) c ∙ ap (λ (n : ℕ). n * 2 ^ low f) v.1 ∙ mul_right_comm a (down e) (2 ^ low f)))
+bits f lib.Ieee.nan s a c C v = elim v [ ]
+bits f (lib.Ieee.inf _) s a c C v = elim v [ ]
 
 pub same-value : (f : Format) (x y : Float) (s : Bool) (a c : ℕ) → 0 < c → T (fits f x) → T (fits f y) → HasValue x s a c → HasValue y s a c → x ≡ y
 same-value f x y s a c C t u v w = sym (of_bits-to_bits f x t) ∙ ap (of_bits f) (bits f x s a c C v ∙ sym (bits f y s a c C w)) ∙ of_bits-to_bits f y u

@@ -120,6 +120,10 @@ le-cross (fin s m e) (fin t n d) F G h =
     let a = m * up e in
     let b = n * up d in
     rw (P-mul s a (down d), P-mul t b (down e), N-mul s a (down d), N-mul t b (down e)) at (LeS→ s (a * down d) t (b * down e) (le→ s (a * down d) t (b * down e) h))
+le-cross nan y F G h = elim F [ ]
+le-cross (inf _) y F G h = elim F [ ]
+le-cross (fin s m e) nan F G h = elim G [ ]
+le-cross (fin s m e) (inf _) F G h = elim G [ ]
 
 -- ---- r is (u - v) / c, rounded
 pub record Rounded (r : Float) (u v c : ℕ) : Type 0 where
@@ -152,11 +156,17 @@ add-rounded (fin s m e) (fin t n d) F G =
       is = sum_is binary64 s (a * down d) t (b * down e) (down e * down d);
       value = rw (P-mul s a (down d), P-mul t b (down e), N-mul s a (down d), N-mul t b (down e)) at (balance s (a * down d) t (b * down e));
     }
+add-rounded nan y F G = elim F [ ]
+add-rounded (inf _) y F G = elim F [ ]
+add-rounded (fin s m e) nan F G = elim G [ ]
+add-rounded (fin s m e) (inf _) F G = elim G [ ]
 
 pub sub-rounded : (x y : Float) → T (finite x) → T (finite y) → Rounded (sub binary64 x y) (num⁺ x * den y + num⁻ y * den x) (num⁻ x * den y + num⁺ y * den x) (den x * den y)
 unfolding sub neg
 sub-rounded x (fin true n d) F G = add-rounded x (fin false n d) F tt
 sub-rounded x (fin false n d) F G = add-rounded x (fin true n d) F tt
+sub-rounded x nan F G = elim G [ ]
+sub-rounded x (inf _) F G = elim G [ ]
 
 -- ---- x ≤ x' gives x + y ≤ x' + y, for finite values; an infinite result is in order too
 pub add_left : (x x' y : Float) → T (finite x) → T (finite x') → T (finite y) → T (le x x') → T (le (add binary64 x y) (add binary64 x' y))

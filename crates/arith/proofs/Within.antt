@@ -153,12 +153,30 @@ bound (fin s m e) = not s
 
 pub mul_in : (f : Format) (b c d x y : Float) → T (bound b && bound c && le (mul f b c) d) → Within b x → Within c y → Within d (mul f x y)
 mul_in f (fin false b g) (fin false c h) d x y t p q = widen (mul f (fin false b g) (fin false c h)) d (mul f x y) t (mul-within f b c g h x y p q)
+mul_in f nan c d x y t p q = elim t [ ]
+mul_in f (inf _) c d x y t p q = elim t [ ]
+mul_in f (fin false b g) nan d x y t p q = elim t [ ]
+mul_in f (fin false b g) (inf _) d x y t p q = elim t [ ]
+mul_in f (fin false b g) (fin true c h) d x y t p q = elim t [ ]
+mul_in f (fin true b g) c d x y t p q = elim t [ ]
 
 pub add-in : (f : Format) (b c d x y : Float) → T (bound b && bound c && le (add f b c) d) → Within b x → Within c y → Within d (add f x y)
 add-in f (fin false b g) (fin false c h) d x y t p q = widen (add f (fin false b g) (fin false c h)) d (add f x y) t (add-within f b c g h x y p q)
+add-in f nan c d x y t p q = elim t [ ]
+add-in f (inf _) c d x y t p q = elim t [ ]
+add-in f (fin false b g) nan d x y t p q = elim t [ ]
+add-in f (fin false b g) (inf _) d x y t p q = elim t [ ]
+add-in f (fin false b g) (fin true c h) d x y t p q = elim t [ ]
+add-in f (fin true b g) c d x y t p q = elim t [ ]
 
 pub sub_in : (f : Format) (b c d x y : Float) → T (bound b && bound c && le (add f b c) d) → Within b x → Within c y → Within d (sub f x y)
 sub_in f (fin false b g) (fin false c h) d x y t p q = widen (add f (fin false b g) (fin false c h)) d (sub f x y) t (sub_within f b c g h x y p q)
+sub_in f nan c d x y t p q = elim t [ ]
+sub_in f (inf _) c d x y t p q = elim t [ ]
+sub_in f (fin false b g) nan d x y t p q = elim t [ ]
+sub_in f (fin false b g) (inf _) d x y t p q = elim t [ ]
+sub_in f (fin false b g) (fin true c h) d x y t p q = elim t [ ]
+sub_in f (fin true b g) c d x y t p q = elim t [ ]
 
 -- ---- a bound on the size is one on either side
 pub le-abs : (x : Float) → real x → T (le x (abs x)) × T (le (neg (abs x)) x)
@@ -301,6 +319,12 @@ near-in f (fin false c g) (fin false b h) lo hi t k w =
     let k1 = and_l (le B C && le lo (sub f C B)) (le (add f C B) hi) k in
     let r = add-near f c b g h (cross b h c g (and_l (le B C) (le lo (sub f C B)) k1)) t w in
     (order.le_trans lo (sub f C B) (add f C t) (and_r (le B C) (le lo (sub f C B)) k1) r.0, order.le_trans (add f C t) (add f C B) hi r.1 (and_r (le B C && le lo (sub f C B)) (le (add f C B) hi) k))
+near-in f nan b lo hi t k w = elim k [ ]
+near-in f (inf _) b lo hi t k w = elim k [ ]
+near-in f (fin false c g) nan lo hi t k w = elim k [ ]
+near-in f (fin false c g) (inf _) lo hi t k w = elim k [ ]
+near-in f (fin false c g) (fin true b h) lo hi t k w = elim k [ ]
+near-in f (fin true c g) b lo hi t k w = elim k [ ]
 
 pub div-in : (f : Format) (b c d x y : Float) → T (bound b && bound c && not (eqb (mag c) 0) && le (div f b c) d) → T (finite y && le c (abs y)) → Within b x → Within d (div f x y)
 div-in f (fin false b g) (fin false c h) d x y t q p =
@@ -310,6 +334,12 @@ div-in f (fin false b g) (fin false c h) d x y t q p =
     not-zero : (n : ℕ) → T (not (eqb n 0)) → 0 < n
     not-zero zero t = absurd t
     not-zero (suc n) t = omega arith
+div-in f nan c d x y t q p = elim t [ ]
+div-in f (inf _) c d x y t q p = elim t [ ]
+div-in f (fin false b g) nan d x y t q p = elim t [ ]
+div-in f (fin false b g) (inf _) d x y t q p = elim t [ ]
+div-in f (fin false b g) (fin true c h) d x y t q p = elim t [ ]
+div-in f (fin true b g) c d x y t q p = elim t [ ]
 
 pub within-finite : (b x : Float) → T (finite b) → Within b x → T (finite x)
 unfolding le

@@ -1,5 +1,7 @@
 // Document 01's arithmetic on f64, each function total and equal to its definition in specs/ for every argument.
 // The laws on these definitions that other crates cite stand in proofs/.
+#![tactic(auto)]
+
 ghost use Rattle.std.specs.Prelude.{◌≡◌};
 ghost use Rattle.arith.specs.Outcome.{number_of, word_of, value_of};
 

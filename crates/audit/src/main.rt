@@ -1,4 +1,6 @@
 // Reads the text of `propose` from standard input and writes every point that was drawn for a new trial with a model, with its expected improvement.
+#![tactic(auto)]
+
 fn main() {
     if os::arg_count() > 1 {
         io::write_all(

@@ -1,4 +1,6 @@
 // Dimensions: a distribution beside its internal bounds.
+#![tactic(auto)]
+
 pub mod bounds;
 
 pub use bounds::{dimension, dimensions_ok, is_continuous};

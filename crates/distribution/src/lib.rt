@@ -1,4 +1,6 @@
 // Distributions and values: the shape test, equality, and the Taken rule. The names are the Rust's.
+#![tactic(auto)]
+
 ghost use Rattle.std.specs.Prelude.{◌≡◌};
 ghost use Rattle.distribution.specs.Value.{kind_of, word_of};
 

@@ -1,4 +1,6 @@
 // A distribution's ends and its values in the model's space: functions of common.rs.
+#![tactic(auto)]
+
 pub mod bounds;
 pub mod encode;
 

@@ -22,6 +22,8 @@ use Rattle.exponential.proofs.ExpRange.{product-pos, product-sign}
 nearest-is : (t : Float) → T (finite t) → nearest_of t ≡ (2 * num (abs t) + den (abs t)) / (2 * den (abs t))
 unfolding nearest_of
 nearest-is (fin s m e) F = refl
+nearest-is nan F = elim F [ ]
+nearest-is (inf _) F = elim F [ ]
 
 half-off : (G w : ℕ) → 0 < w → (2 * ((2 * G + w) / (2 * w) * w) ≤ 2 * G + w) × (2 * G ≤ 2 * ((2 * G + w) / (2 * w) * w) + w)
 half-off G w P = go ((2 * G + w) / (2 * w)) ((2 * G + w) % (2 * w)) (div-add-mod' (2 * G + w) (2 * w)) (mod-lt (2 * G + w) (mul-pos (pow_pos 1) P))

@@ -1,4 +1,6 @@
 // exp by document 01's recipe, alone and of eight at once.
+#![tactic(auto)]
+
 ghost use Rattle.std.specs.Prelude.{◌≡◌, ℕ, ◌<◌, ◌≤◌, false, pos, slice_index, slice_index_or};
 ghost use Rattle.std.specs.Float.{nan, fin};
 ghost use Rattle.std.specs.Float.Ieee.{minus};

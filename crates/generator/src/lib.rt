@@ -1,4 +1,6 @@
 // The generator: one word, lent to a draw and moved on there. Each draw is that of the word, and a refusal leaves the word as it was.
+#![tactic(auto)]
+
 ghost use Rattle.std.specs.Prelude.{◌≡◌};
 ghost use Rattle.rng_util.specs.Draws.{word_draw_of, unit_draw_of, whole_draw_of};
 ghost use Rattle.common.specs.Random.{sample_random_of};

@@ -1,4 +1,6 @@
 // The Gaussian-process model of gp.rs, and its fit.
+#![tactic(auto)]
+
 pub mod fitting;
 pub mod kernels;
 pub mod statistics;

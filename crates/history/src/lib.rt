@@ -1,4 +1,6 @@
 // What the model learns from a history: the training data of the recent rows. The names are the Rust's.
+#![tactic(auto)]
+
 pub mod building;
 pub mod columns;
 

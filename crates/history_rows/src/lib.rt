@@ -1,4 +1,6 @@
 // Histories as rows of words, and the tests that document 01 makes of the recent ones.
+#![tactic(auto)]
+
 pub mod rows;
 pub mod tests;
 

@@ -1,4 +1,6 @@
 // What a sampler sees of a history, and what is promised of it.
+#![tactic(auto)]
+
 pub mod viewing;
 
 use history::Training;

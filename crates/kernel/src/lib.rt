@@ -1,4 +1,6 @@
 // The Matérn kernel, with the Rust's names and constant.
+#![tactic(auto)]
+
 ghost use Rattle.std.specs.Prelude.{◌≡◌, length};
 ghost use Rattle.kernel.specs.Accepts.{KernelAccepts};
 ghost use Rattle.kernel.specs.Matern.{squared_distance_of, squared_of, scaled_root_of, decay_of, matern52_of};

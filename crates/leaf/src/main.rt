@@ -2,6 +2,8 @@
 // one: the call's number, and the words of its result where that is 0. A line that it cannot read is answered by `?`.
 //
 // A new leaf is a function in the module of its crate and a name in its group in `line`.
+#![tactic(auto)]
+
 mod arithmetic;
 mod codings;
 mod draws;

@@ -77,6 +77,10 @@ all-below = tt
 
 four : (a b c d : Bool) → T (a && b && c && d) → T a × T b × T c × T d
 four true true true true t = (tt, tt, tt, tt)
+four false b c d t = elim t [ ]
+four true false c d t = elim t [ ]
+four true true false d t = elim t [ ]
+four true true true false t = elim t [ ]
 
 between-finite : (a x b : Float) → T (finite a) → T (finite b) → T (le a x) → T (le x b) → T (finite x)
 unfolding le
@@ -84,6 +88,10 @@ between-finite (fin s m e) nan b F G h k = absurd h
 between-finite (fin s m e) (inf true) b F G h k = absurd h
 between-finite (fin s m e) (inf false) (fin t n d) F G h k = absurd k
 between-finite (fin s m e) (fin u o g) b F G h k = tt
+between-finite nan _ b F G h k = elim F [ ]
+between-finite (inf _) _ b F G h k = elim F [ ]
+between-finite (fin s m e) (inf false) nan F G h k = elim G [ ]
+between-finite (fin s m e) (inf false) (inf _) F G h k = elim G [ ]
 
 x-finite : (x : Float) → Between low high x → T (finite x)
 x-finite x X = between-finite low x high (unfold of_bits in tt) (unfold of_bits in tt) X.0 X.1
@@ -206,6 +214,9 @@ root-size = unfold of_bits in (refl, refl)
 positive-real : (x : Float) → T (positive x) → real x
 unfolding is_nan
 positive-real (fin false m e) p = tt
+positive-real nan p = elim p [ ]
+positive-real (inf _) p = elim p [ ]
+positive-real (fin true m e) p = elim p [ ]
 
 module _ (m : Float) (t : ℕ) (few : t < 2 ^ 52) (size : HasValue m false (2 ^ 52 + t) (2 ^ 52)) where
   m-positive : T (positive m)

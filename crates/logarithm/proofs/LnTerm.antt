@@ -44,9 +44,15 @@ plus-of (fin s m e) F n = subst (λ (b : Bool). T (not b)) (sym n) tt
 
 own : (b x : Float) → T (bound x) → T (le x b) → Within b x
 own b (fin false m e) p h = h
+own b nan p h = elim p [ ]
+own b (inf _) p h = elim p [ ]
+own b (fin true m e) p h = elim p [ ]
 
 itself : (x : Float) → T (bound x) → T (le x x)
 itself (fin false m e) p = order.reflexive (fin false m e) (unfold is_nan in tt)
+itself nan p = elim p [ ]
+itself (inf _) p = elim p [ ]
+itself (fin true m e) p = elim p [ ]
 
 same : (b x : Float) → T (bound x && le x b) → Grows b x x
 same b x t = let p = and_l (bound x) (le x b) t in record { plus = p; under = own x x p (itself x p); small = and_r (bound x) (le x b) t }
@@ -67,10 +73,22 @@ module _ (op : Float → Float → Float) (op-plus : (x y : Float) → T (bound 
 mul-plus : (x y : Float) → T (bound x) → T (bound y) → negative (mul binary64 x y) ≡ false
 unfolding mul
 mul-plus (fin false m e) (fin false n d) p q = negative-round binary64 false (m * up e * (n * up d)) (down e * down d)
+mul-plus nan y p q = elim p [ ]
+mul-plus (inf _) y p q = elim p [ ]
+mul-plus (fin false m e) nan p q = elim q [ ]
+mul-plus (fin false m e) (inf _) p q = elim q [ ]
+mul-plus (fin false m e) (fin true n d) p q = elim q [ ]
+mul-plus (fin true m e) y p q = elim p [ ]
 
 add-plus : (x y : Float) → T (bound x) → T (bound y) → negative (add binary64 x y) ≡ false
 unfolding add
 add-plus (fin false m e) (fin false n d) p q = negative-round binary64 false (m * up e * down d + n * up d * down e) (down e * down d)
+add-plus nan y p q = elim p [ ]
+add-plus (inf _) y p q = elim p [ ]
+add-plus (fin false m e) nan p q = elim q [ ]
+add-plus (fin false m e) (inf _) p q = elim q [ ]
+add-plus (fin false m e) (fin true n d) p q = elim q [ ]
+add-plus (fin true m e) y p q = elim p [ ]
 
 mul-grows : (b c d x x' y y' : Float) → T (finite d) → T (bound b && bound c && le (mul binary64 b c) d) → Grows b x x' → Grows c y y' → Grows d (mul binary64 x y) (mul binary64 x' y')
 mul-grows = grows (mul binary64) mul-plus (mul_in binary64)
@@ -128,14 +146,29 @@ product-grows s s' g = mul-grows one two two (mul binary64 (whole 2) s) (mul bin
 square : (x : Float) → T (bound x) → mul binary64 (neg x) (neg x) ≡ mul binary64 x x
 unfolding mul neg
 square (fin false m e) p = refl
+square nan p = elim p [ ]
+square (inf _) p = elim p [ ]
+square (fin true m e) p = elim p [ ]
 
 neg-mul : (x y : Float) → T (bound x) → T (bound y) → mul binary64 (neg x) y ≡ neg (mul binary64 x y)
 unfolding mul neg
 neg-mul (fin false m e) (fin false n d) p q = sym (neg-round binary64 (m * up e * (n * up d)) (down e * down d))
+neg-mul nan y p q = elim p [ ]
+neg-mul (inf _) y p q = elim p [ ]
+neg-mul (fin false m e) nan p q = elim q [ ]
+neg-mul (fin false m e) (inf _) p q = elim q [ ]
+neg-mul (fin false m e) (fin true n d) p q = elim q [ ]
+neg-mul (fin true m e) y p q = elim p [ ]
 
 mul-neg : (x y : Float) → T (bound x) → T (bound y) → mul binary64 x (neg y) ≡ neg (mul binary64 x y)
 unfolding mul neg
 mul-neg (fin false m e) (fin false n d) p q = sym (neg-round binary64 (m * up e * (n * up d)) (down e * down d))
+mul-neg nan y p q = elim p [ ]
+mul-neg (inf _) y p q = elim p [ ]
+mul-neg (fin false m e) nan p q = elim q [ ]
+mul-neg (fin false m e) (inf _) p q = elim q [ ]
+mul-neg (fin false m e) (fin true n d) p q = elim q [ ]
+mul-neg (fin true m e) y p q = elim p [ ]
 
 product-neg : (s : Float) → Grows s-max s s → product (neg s) ≡ neg (product s)
 product-neg s g = rw (square s g.plus, mul-neg (whole 2) s (unfold of_int in tt) g.plus) (neg-mul (mul binary64 (whole 2) s) (q-of s) (twice-grows s s g).plus (q-grows s s g).plus)
@@ -251,6 +284,10 @@ ends true (fin false m e) a r h =
       minus-more x y (down e * 1) k.0 ∙ round_same binary64 true (y - x) (down e * 1) a (2 ^ 53) D (pow_pos 53) k.1,
       round_same binary64 false (x + y) (down e * 1) (2 ^ 54 - a) (2 ^ 53) D (pow_pos 53) k.2,
     )
+ends false nan a r h = elim h [ ]
+ends false (inf _) a r h = elim h [ ]
+ends true nan a r h = elim h [ ]
+ends true (inf _) a r h = elim h [ ]
 
 difference : (s : Bool) (a : ℕ) → a ≤ 2 ^ 52 → HasValue (round binary64 s a (2 ^ bits s)) s a (2 ^ bits s)
 difference false a h = rw (mul-one a) at (exact 1022 52 refl false a 0 (omega arith) (omega arith))
@@ -284,6 +321,11 @@ div-at s (fin t m e) (fin false (suc n) d) a c p C h =
     let N = mul-pos (zero-lt-suc n) (up_pos d) in
     rw (eqb-suc-zero n, unlike-plus t, h.0)
     (round_same binary64 s (m * up e * down d) (suc n * up d * down e) (a * down d) (suc n * up d * c) (mul-pos N (down_pos e)) (mul-pos N C) (exchange (m * up e) (down d) (suc n * up d) c a (down e) h.1))
+div-at s nan y a c p C h = elim h [ ]
+div-at s (inf _) y a c p C h = elim h [ ]
+div-at s (fin t m e) nan a c p C h = elim p [ ]
+div-at s (fin t m e) (inf _) a c p C h = elim p [ ]
+div-at s (fin t m e) (fin true _ d) a c p C h = elim p [ ]
 
 abbrev quotient : Bool → ℕ → Float
 quotient s a = round binary64 false (a * den (divisor s a)) (num (divisor s a) * 2 ^ bits s)
@@ -364,6 +406,12 @@ size_mono s a b h l = upper (product (quotient s b)) (product (quotient s a)) (s
 across : (x y : Float) → T (bound x) → T (bound y) → T (le (neg x) y)
 unfolding le neg
 across (fin false m e) (fin false n d) p q = order.→le true (m * up e * down d) false (n * up d * down e) tt
+across nan y p q = elim p [ ]
+across (inf _) y p q = elim p [ ]
+across (fin false m e) nan p q = elim q [ ]
+across (fin false m e) (inf _) p q = elim q [ ]
+across (fin false m e) (fin true n d) p q = elim q [ ]
+across (fin true m e) y p q = elim p [ ]
 
 none : (a b : ℕ) → a + b ≤ 0 → 0 < b → ⊥
 none a b h l = omega arith

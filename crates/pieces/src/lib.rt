@@ -1,4 +1,6 @@
 // Standard input in pieces: one read, and what it leaves of a line moved to the front for the next.
+#![tactic(auto)]
+
 ghost use Rattle.std.specs.Prelude.{◌≡◌, ◌-◌, ◌≤◌, length, drop};
 ghost use Rattle.std.proofs.Math.Seq.{paste};
 ghost use Rattle.pieces.specs.Kept.{kept_of};

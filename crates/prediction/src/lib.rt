@@ -1,4 +1,6 @@
 // What a model of gp.rs says of a point: its mean and its deviation.
+#![tactic(auto)]
+
 pub mod predicting;
 
 pub use predicting::{counts_fit, predict};

@@ -1,4 +1,6 @@
 // Reads the three tables of a text from standard input and writes an answer for each call as it is read.
+#![tactic(auto)]
+
 fn main() {
     if os::arg_count() > 1 {
         io::write_all(

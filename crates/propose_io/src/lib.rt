@@ -1,5 +1,7 @@
 // One text from standard input, in pieces of any length, and on standard output its answers, or the points scored for its new trials (`scores`).
 // What a call of the system reads or writes no contract can say: all that is judged comes from `propose_text`, and these functions are tested.
+#![tactic(auto)]
+
 mod scores;
 
 ghost use Rattle.std.specs.Prelude.{◌+◌, ◌≤◌, length};

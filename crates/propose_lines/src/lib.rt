@@ -1,4 +1,6 @@
 // The lines of a text of `propose`: names compared, words read, and the lines written.
+#![tactic(auto)]
+
 pub mod answers;
 pub mod lines;
 pub mod names;

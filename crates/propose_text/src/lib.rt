@@ -1,4 +1,6 @@
 // The text of `propose`, read line by line.
+#![tactic(auto)]
+
 pub mod steps;
 
 pub use steps::{finish, read_line, start};

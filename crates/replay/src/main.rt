@@ -1,4 +1,6 @@
 // Runs stored texts, each after a line with its length in bytes, by the functions that `propose` runs; what it writes is held to the Rust's answers.
+#![tactic(auto)]
+
 use word_text::Parsed;
 
 // The length of the next text, and whether there is one.

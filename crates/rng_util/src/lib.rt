@@ -1,4 +1,6 @@
 // The generator of document 01 and its three draws, each on the generator's word.
+#![tactic(auto)]
+
 ghost use Rattle.std.specs.Prelude.{◌≡◌, T};
 ghost use Rattle.rng_util.specs.Generator.{next_of};
 ghost use Rattle.rng_util.specs.Draws.{range_ok, whole_of, word_draw_of, unit_draw_of, whole_draw_of};

@@ -226,6 +226,9 @@ module _ (n s : ℕ) (r : Root n s) (big : 2 ^ 53 ≤ s) where
 -- ---- values that fit and are the same number are the same
 value_of : (x y : Float) → T (positive.positive y) → num x * den y ≡ num y * den x → HasValue y false (num x) (den x)
 value_of x (fin false n d) q h = (refl, sym h)
+value_of x nan q h = elim q [ ]
+value_of x (lib.Ieee.inf _) q h = elim q [ ]
+value_of x (fin true n d) q h = elim q [ ]
 
 same-value : (x y : Float) → T (fits binary64 x) → T (fits binary64 y) → T (positive.positive x) → T (positive.positive y) → T (le x y) → T (le y x) → x ≡ y
 same-value x y f g p q h k =

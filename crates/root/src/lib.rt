@@ -1,4 +1,6 @@
 // The correctly rounded square root: a guess in floats, settled in whole numbers.
+#![tactic(auto)]
+
 ghost use Rattle.std.specs.Prelude.{◌≡◌, ◌+◌, ◌-◌, ◌*◌, ◌/◌, ◌%◌, ◌^◌, ◌≤◌, ◌<◌, leb};
 ghost use Rattle.root.specs.Sqrt.{sqrt_of};
 ghost use Rattle.root.specs.RootParts.{Near, Pattern};

@@ -1,4 +1,6 @@
 // The two calls of a sampler.
+#![tactic(auto)]
+
 pub mod calls;
 pub mod phases;
 pub mod serving;

@@ -1,4 +1,6 @@
 // What a sampler's two calls answer, as definitions, and what is promised of every run of them.
+#![tactic(auto)]
+
 pub mod laws;
 
 use distribution::ParamValue;

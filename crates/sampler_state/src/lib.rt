@@ -1,4 +1,6 @@
 // A sampler of gp.rs, by value: making one, whether one is well-formed, and its places.
+#![tactic(auto)]
+
 pub mod checking;
 pub mod making;
 pub mod places;

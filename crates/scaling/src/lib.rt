@@ -1,4 +1,6 @@
 // Between internal bounds and the unit interval.
+#![tactic(auto)]
+
 ghost use Rattle.std.specs.Prelude.{◌≡◌};
 ghost use Rattle.scaling.specs.Scaling.{to_normalized_of, from_normalized_of};
 

@@ -1,4 +1,6 @@
 // What gp.rs does with a model: the search for the next point.
+#![tactic(auto)]
+
 pub mod eights;
 pub mod searching;
 

@@ -1,4 +1,6 @@
 // The settings of a sampler: their defaults, a setter for each, and the test that making a sampler makes.
+#![tactic(auto)]
+
 ghost use Rattle.std.specs.Prelude.{◌≡◌};
 ghost use Rattle.settings.specs.Settings.{new_of, with_startup, with_candidates, with_noise, with_seed, with_slots, settings_ok};
 

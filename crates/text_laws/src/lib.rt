@@ -1,4 +1,6 @@
 // What a text of `propose` is and what is answered: the definitions, the types that they name, and the laws of every text.
+#![tactic(auto)]
+
 pub mod laws;
 
 use sampler_state::Sampler;

@@ -1,4 +1,6 @@
 // Words as text: sixteen lower-case hexadecimal digits, the highest first.
+#![tactic(auto)]
+
 ghost use Rattle.std.specs.Prelude.{◌≡◌, ◌<◌};
 ghost use Rattle.word_text.specs.Digits.{digit_of, value_of, digits_of, parse_of};
 ghost use Rattle.word_text.specs.RoundTrip.{RoundTrip};

@@ -1,0 +1,16 @@
+-- `arith::choice::least` meets its contract: before each turn the best is the least of the values passed. Assumes nothing.
+use Rattle.std.proofs.Common.{◌≡◌, ◌-◌, ◌≤◌, length, refl, add-one, arith, rules}
+use lib.Ieee.{div, of_bits}
+use Rattle.arith.specs.Choice.{least_of_first}
+use Rattle.arith.proofs.choice.least.Goals as goal
+
+pub loop-i-init : goal.loop-i-init
+unfolding least_of_first div of_bits
+loop-i-init c = (omega arith, refl)
+
+pub loop-i-preserved : goal.loop-i-preserved
+unfolding least_of_first
+loop-i-preserved c = (search rules, rw (c.lesser-best.ensures, c.loop-i.invariant.1, add-one))
+
+pub returns : goal.returns
+returns c = let e : c.loop-i.i ≡ length c.args.xs.now = omega arith in cc

@@ -1,0 +1,7 @@
+-- `arith::word` meets its contract. Assumes nothing.
+use Rattle.std.proofs.Common.{sym, ap, ◌∙◌, rules}
+use Rattle.arith.specs.Outcome.{word_of}
+use Rattle.arith.proofs.word.Goals as goal
+
+pub returns-in-Value : goal.returns-in-Value
+returns-in-Value c = c.word_of_float.ensures ∙ sym (ap word_of c.in-Value.is)

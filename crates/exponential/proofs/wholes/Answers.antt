@@ -1,0 +1,17 @@
+-- `exponential::wholes` meets its contract: before each turn the array holds the p passed. Assumes nothing.
+use Rattle.std.proofs.Common.{◌≡◌, ◌-◌, ◌≤◌, get_or, refl, add-one, arith, rules}
+use lib.Ieee.{nan}
+use Rattle.exponential.specs.ExpParts.{size_of}
+use Rattle.arith.specs.Lists.{grown, list_of, filled}
+use Rattle.arith.proofs.Lists.{eight-filled, grown-filled-set}
+use Rattle.exponential.proofs.wholes.Goals as goal
+
+pub loop-p-init : goal.loop-p-init
+unfolding grown
+loop-p-init c = (omega arith, refl)
+
+pub loop-p-preserved : goal.loop-p-preserved
+loop-p-preserved c = let l = c.loop-p in (search rules, rw (c.whole.ensures, l.invariant.1, add-one l.p) (grown-filled-set 0 8 _ l.p (omega arith)))
+
+pub returns : goal.returns
+returns c = rw c.loop-p.invariant.1 (eight-filled 0 _ _ (omega arith))

@@ -1,0 +1,11 @@
+-- `propose_lines::answers::answer_line` meets its contract. Assumes nothing.
+use mathlib.Core.Path.{refl}
+use lib.ListN.{replicate}
+use Rattle.propose_lines.specs.Lines.{answer_line}
+use Rattle.propose_lines.proofs.AnswerLine.{four-words}
+use borrow.Author.Rules.{rules}
+use Rattle.propose_lines.proofs.answers.answer_line.Goals as goal
+
+pub returns : goal.returns
+unfolding answer_line
+returns c = rw (c.put.ensures, c.put-three.ensures, c.put-two.ensures, c.put-one.ensures) (four-words (replicate 68 0) _ _ _ _ refl)

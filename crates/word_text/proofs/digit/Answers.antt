@@ -1,0 +1,11 @@
+-- `word_text::digit` meets its contract, by the test on ten.
+use native.Mathlib.Omega.{arith}
+use borrow.Author.Rules.{rules}
+use borrow.Author.Tests.{lt-ltb, le-ltb}
+use Rattle.word_text.proofs.digit.Goals as goal
+
+pub returns-then-d-lt10 : goal.returns-then-d-lt10
+returns-then-d-lt10 c = rw (lt-ltb c.args.d 10 (omega arith))
+
+pub returns-else-d-lt10 : goal.returns-else-d-lt10
+returns-else-d-lt10 c = rw (le-ltb c.args.d 10 (omega arith))

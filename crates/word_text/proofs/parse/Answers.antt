@@ -1,0 +1,65 @@
+-- `word_text::parse` meets its contract. The loop's invariant: the bytes passed are digits, and `n` is their number.
+use Prim.Native.Nat.{◌≤◌, ◌<◌, ◌-◌, ◌^◌}
+use mathlib.Core.Path.{◌≡◌, refl}
+use mathlib.Core.Bool.{true, and-false}
+use native.Mathlib.Omega.{arith}
+use borrow.Author.Rules.{rules}
+use borrow.Author.Tests.{eq-eqb, ne_eqb}
+use lib.Dec.{eqb}
+use lib.ListN.{length, take, get_or}
+use lib.Seq.{take_all}
+use Rattle.word_text.specs.Digits.{value_of, all_digits, of_digits}
+use Rattle.word_text.proofs.Digits.{not-all, all_more, of-more, of_room}
+use Rattle.word_text.proofs.parse.Goals as goal
+use Rattle.word_text.proofs.parse.Goals.{Else-v-ge16}
+
+pub returns-then-s-ne16 : goal.returns-then-s-ne16
+returns-then-s-ne16 c = rw (ne_eqb (length c.args.s.now) 16 (omega arith))
+
+pub loop-i-init : goal.loop-i-init
+unfolding all_digits of_digits
+loop-i-init c = (omega arith, omega arith, refl, refl)
+
+pub bounds-s-i : goal.bounds-s-i
+bounds-s-i c = omega arith
+
+pub returns-then-v-ge16 : goal.returns-then-v-ge16
+returns-then-v-ge16 c =
+    let s = c.args.s.now in
+    let i = c.loop-i.i in
+    let v : 16 ≤ value_of (get_or s i 0) = omega arith in
+    rw (not-all s i (omega arith) v, and-false (eqb (length s) 16))
+
+-- the number of the digits passed has room for one digit more
+room : (c : Else-v-ge16) → c.loop-i.n < 16 ^ 15
+room c =
+    let s = c.args.s.now in
+    let a = c.loop-i in
+    rw a.invariant.3 (of_room s a.i (omega arith) (omega arith) a.invariant.2)
+
+pub overflow_mul-n : goal.overflow_mul-n
+overflow_mul-n c = omega (arith, room c)
+
+pub overflow_add-n : goal.overflow_add-n
+overflow_add-n c = omega (arith, room c)
+
+pub overflow_add-i : goal.overflow_add-i
+overflow_add-i c = omega arith
+
+pub loop-i-smaller : goal.loop-i-smaller
+loop-i-smaller c = omega arith
+
+pub loop-i-preserved : goal.loop-i-preserved
+loop-i-preserved c =
+    let s = c.args.s.now in
+    let a = c.loop-i in
+    let v : c.value-v.result ≡ value_of (get_or s a.i 0) = c.value-v.ensures in
+    let h : a.i < length s = omega arith in
+    (omega arith, a.invariant.1, all_more s a.i h a.invariant.2 (omega arith), rw (of-more s a.i h, v, a.invariant.3))
+
+pub returns : goal.returns
+returns c =
+    let s = c.args.s.now in
+    let a = c.loop-i in
+    let whole : take a.i s ≡ s = take_all a.i s (omega arith) in
+    rw (eq-eqb (length s) 16 a.invariant.1, rw whole at a.invariant.2, rw whole at a.invariant.3)
