@@ -26,7 +26,8 @@ FIELDS = set()
 def flat(name):
     """A name as all spellings of it agree: port.py writes a part of a path now and then as another name of std's."""
     low = name.replace("-", "_").lower()
-    return low[:-4] if low.endswith("_lem") else low
+    low = low[:-4] if low.endswith("_lem") else low
+    return re.sub(r"_(?=\d+$)", "", low)
 
 
 class Function:
@@ -99,9 +100,10 @@ class Turn:
     def place_of(self, start, n):
         at = start
         for _ in range(n):
-            at = self.f.parent(at)
-            if at is None:
-                return None
+            above = self.f.parent(at)
+            if above is None:
+                return at
+            at = above
         return at
 
     def field(self, at, rest, base, again=False):
@@ -185,7 +187,7 @@ class Turn:
             return name + "." + ".".join(self.field(place, rest[n:], at))
 
         text = PATH.sub(path, text)
-        text = FIELD.sub(lambda m: "." + flat(m[1]) if flat(m[1]) in FIELDS else m[0], text)
+        text = FIELD.sub(lambda m: "." + m[1].replace("-", "_") if m[1].replace("-", "_") in FIELDS else m[0], text)
         # the test of `!x` says of x what it says
         return re.sub(r"(?<=\s)\((c\.[^\s,()]+)\)", r"\1", NEGATED.sub(r"\2", text))
 

@@ -18,7 +18,7 @@ pub use words::{
 };
 
 // What a function with a domain answers: its value, or the number of the refusal.
-#[derive(Drop)]
+#[derive(Clone, Copy)]
 pub enum Outcome {
     Value(f64),
     Refused(u64),

@@ -10,7 +10,7 @@ use distribution::ParamValue;
 pub use random::sample_random;
 
 // A random value, the words drawn for it and the generator's next word. Where the value is a refusal, no word is drawn.
-#[derive(Drop)]
+#[derive(Clone, Copy)]
 pub struct RandomDraw {
     pub value: ParamValue,
     pub drawn: u64,

@@ -7,7 +7,7 @@ pub use bounds::{dimension, dimensions_ok, is_continuous};
 use distribution::{Distribution, ParamValue};
 
 // A dimension: its distribution beside its internal bounds. Those of a choice are +0 and +0.
-#[derive(Drop)]
+#[derive(Clone, Copy)]
 pub struct DimensionInfo {
     pub distribution: Distribution,
     pub lo: f64,
@@ -15,7 +15,7 @@ pub struct DimensionInfo {
 }
 
 // A value in an array.
-#[derive(Drop)]
+#[derive(Clone, Copy)]
 pub struct Stored {
     pub value: ParamValue,
 }

@@ -14,7 +14,7 @@ pub use shape::well_formed;
 pub use taken::{taken_rule, value_of_word};
 
 // A float parameter. An unstepped one has the step +0.
-#[derive(Drop)]
+#[derive(Clone, Copy)]
 pub struct FloatDistribution {
     pub low: f64,
     pub high: f64,
@@ -24,7 +24,7 @@ pub struct FloatDistribution {
 }
 
 // An integer parameter. An unstepped one has the step 0.
-#[derive(Drop)]
+#[derive(Clone, Copy)]
 pub struct IntDistribution {
     pub low: i64,
     pub high: i64,
@@ -34,12 +34,12 @@ pub struct IntDistribution {
 }
 
 // A choice among n_choices.
-#[derive(Drop)]
+#[derive(Clone, Copy)]
 pub struct CategoricalDistribution {
     pub n_choices: u64,
 }
 
-#[derive(Drop)]
+#[derive(Clone, Copy)]
 pub enum Distribution {
     Float(FloatDistribution),
     Int(IntDistribution),
@@ -47,7 +47,7 @@ pub enum Distribution {
 }
 
 // A value of a parameter, or the number of a refusal where none is answered.
-#[derive(Drop)]
+#[derive(Clone, Copy)]
 pub enum ParamValue {
     Float(f64),
     Int(i64),
@@ -56,7 +56,7 @@ pub enum ParamValue {
 }
 
 // What six words say.
-#[derive(Drop)]
+#[derive(Clone, Copy)]
 pub enum Read {
     WellFormed(Distribution),
     Malformed,

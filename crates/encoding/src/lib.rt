@@ -8,7 +8,7 @@ pub use bounds::{ends, internal_bounds};
 pub use encode::to_internal;
 
 // The ends of a distribution in the model's space; a choice has none.
-#[derive(Drop)]
+#[derive(Clone, Copy)]
 pub enum InternalBounds {
     Ends(f64, f64),
     Absent,

@@ -8,7 +8,7 @@ pub use rows::slot_place;
 pub use tests::{recent_part, refusal};
 
 // Where the recent rows of a history start, and how many there are.
-#[derive(Drop)]
+#[derive(Clone, Copy)]
 pub struct RecentRows {
     pub start: usize,
     pub rows: usize,

@@ -6,14 +6,14 @@ pub mod predicting;
 pub use predicting::{counts_fit, predict};
 
 // The mean and the deviation at a point.
-#[derive(Drop)]
+#[derive(Clone, Copy)]
 pub struct Posterior {
     pub mean: f64,
     pub std: f64,
 }
 
 // A prediction: number is 0, or 11 with zeros.
-#[derive(Drop)]
+#[derive(Clone, Copy)]
 pub struct Prediction {
     pub number: u64,
     pub mean: f64,

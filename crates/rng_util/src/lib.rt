@@ -7,7 +7,7 @@ ghost use Rattle.rng_util.specs.Draws.{range_ok, whole_of, word_draw_of, unit_dr
 ghost use Rattle.rng_util.specs.Moves.{DrawingIsMoving};
 
 // What a draw answers: number is 0, or the refusal's number with the value 0, no word drawn and the word as it was.
-#[derive(Drop)]
+#[derive(Clone, Copy)]
 pub struct WordDraw {
     pub number: u64,
     pub value: u64,
@@ -15,7 +15,7 @@ pub struct WordDraw {
     pub next: u64,
 }
 
-#[derive(Drop)]
+#[derive(Clone, Copy)]
 pub struct UnitDraw {
     pub number: u64,
     pub value: f64,
@@ -23,7 +23,7 @@ pub struct UnitDraw {
     pub next: u64,
 }
 
-#[derive(Drop)]
+#[derive(Clone, Copy)]
 pub struct WholeDraw {
     pub number: u64,
     pub value: i64,

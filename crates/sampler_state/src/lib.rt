@@ -12,7 +12,7 @@ pub use places::{find, free_place, taken_count, trial_place};
 use settings::Settings;
 
 // A progress place: whether it is taken, the trial, its values and the dimension to serve next.
-#[derive(Drop)]
+#[derive(Clone, Copy)]
 pub struct Place {
     pub taken: bool,
     pub trial: u64,

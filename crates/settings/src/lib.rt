@@ -4,7 +4,7 @@
 ghost use Rattle.std.specs.Prelude.{◌≡◌};
 ghost use Rattle.settings.specs.Settings.{new_of, with_startup, with_candidates, with_noise, with_seed, with_slots, settings_ok};
 
-#[derive(Drop)]
+#[derive(Clone, Copy)]
 pub struct Settings {
     pub n_startup_trials: u64,
     pub n_candidates: u64,

@@ -6,7 +6,7 @@ pub mod laws;
 use sampler_state::Sampler;
 
 // The line that is awaited.
-#[derive(Drop)]
+#[derive(Clone, Copy)]
 pub enum Stage {
     SettingsNames,
     Settings,
@@ -25,7 +25,7 @@ pub struct Reader {
 }
 
 // What a line was: names, the settings, a row, the names that begin the calls, a call, a refusal that ends the run, or nothing more of a text.
-#[derive(Drop)]
+#[derive(Clone, Copy)]
 pub enum Event {
     Names,
     Settings,

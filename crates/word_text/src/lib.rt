@@ -6,7 +6,7 @@ ghost use Rattle.word_text.specs.Digits.{digit_of, value_of, digits_of, parse_of
 ghost use Rattle.word_text.specs.RoundTrip.{RoundTrip};
 
 // What a text is: a word, or malformed.
-#[derive(Drop)]
+#[derive(Clone, Copy)]
 pub enum Parsed {
     Word(u64),
     Malformed,

@@ -1,0 +1,16 @@
+use Prim.Native.Nat.{◌≤◌, ◌-◌}
+use mathlib.Core.Path.{◌≡◌, refl}
+use native.Mathlib.Numerals.{add-one}
+use native.Mathlib.Omega.{arith}
+use borrow.Author.Rules.{rules}
+use lib.ListN.{get_or}
+use lib.Ieee.{nan}
+use Rattle.factor.specs.Triangle.{entry, less_of}
+use Rattle.factor.proofs.Triangle.{at_room, from_start}
+use Rattle.factor.proofs.next.Given as goal
+
+abbrev pub invariant-loop-k : goal.invariant-loop-k
+invariant-loop-k l = (l.k ≤ l.i) × (l.s ≡ less_of l.k (entry l.l l.i) (λ n. get_or l.z n nan) (get_or l.b l.i nan))
+
+abbrev pub decreases-loop-k : goal.decreases-loop-k
+decreases-loop-k l = l.i - l.k

@@ -1,0 +1,18 @@
+-- `kernel::matern52` meets its contract, by the lengths. Assumes nothing.
+use borrow.Author.Tests.{eq-eqb, ne_eqb}
+use Rattle.kernel.specs.Matern.{matern52_of}
+use borrow.Author.Rules.{rules}
+use Rattle.kernel.proofs.matern52.Goals as goal
+
+pub returns-then-x1-x2 : goal.returns-then-x1-x2
+unfolding matern52_of
+returns-then-x1-x2 c = rw (ne_eqb _ _ c.if-x1-x2.true)
+
+pub returns-then-x1-lengthscales : goal.returns-then-x1-lengthscales
+unfolding matern52_of
+returns-then-x1-lengthscales c = rw (eq-eqb _ _ c.if-x1-x2.false, ne_eqb _ _ c.if-x1-lengthscales.true)
+
+pub returns : goal.returns
+unfolding matern52_of
+returns c =
+    rw (c.decay.ensures, c.scaled_root.ensures, c.distance-r_sq.ensures, eq-eqb _ _ c.if-x1-x2.false, eq-eqb _ _ c.if-x1-lengthscales.false)
