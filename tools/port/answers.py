@@ -195,7 +195,7 @@ class Turn:
 def shadowed(text, names, to):
     """Replaces the names by their new paths, but where the text binds them."""
     out, i, level, scopes = [], 0, 0, []
-    token = re.compile(r"λ ([^.]*)\.|\(([\w'₀-₉ ]+) : |[(){}\[\]]|(?<![\w.'₀-₉-])[A-Za-z_][\w'₀-₉-]*|.", re.S)
+    token = re.compile(r"λ ([^.]*)\.|\(([\w'₀-₉ ]+) : |[(){}\[\]]|(?<![\w.'₀-₉-])([A-Za-z_][\w'₀-₉-]*)|.", re.S)
     while i < len(text):
         m = token.match(text, i)
         t = m[0]
@@ -211,16 +211,29 @@ def shadowed(text, names, to):
         elif t in ")]}":
             level -= 1
             scopes = [s for s in scopes if s[0] <= level]
-        elif t in names and not any(t in s[1] for s in scopes):
+        elif m[3] is not None and t in names and not any(t in s[1] for s in scopes):
             t = to[t]
         out.append(t)
         i = m.end()
     return "".join(out)
 
 
+def parameters(crate, name):
+    """The names of a function's parameters, which old proofs number where a parameter is an array or a struct."""
+    for folder, _, files in os.walk(os.path.join(crate, "src")):
+        for file in files:
+            with open(os.path.join(folder, file), encoding="utf-8") as h:
+                m = re.search(rf"\bfn {name}\(([^()]*(?:\([^()]*\)[^()]*)*)\)", h.read())
+            if m:
+                return re.findall(r"(?:mut )?(\w+)\s*:(?!:)", m[1])
+    return []
+
+
 def turn(path, f, module, said):
     with open(path, encoding="utf-8") as h:
         text = h.read()
+    named = parameters(path.split("/proofs/")[0], os.path.basename(os.path.dirname(path)))
+    text = re.sub(r"\.t(\d+)(?![\w-])", lambda m: "." + named[int(m[1]) - 1] if int(m[1]) <= len(named) else m[0], text)
     uses, tail, decls = blocks(text)
     t = Turn(f, said)
     head = decls[0][0] if decls else []

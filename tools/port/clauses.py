@@ -26,8 +26,9 @@ def main():
         i += 1
         cases = []
         while i < len(lines) and lines[i].startswith("  "):
-            if re.match(re.escape(name) + r"(?=[\s])", lines[i].strip()):
+            if re.match(r"\S+ .*= ", lines[i].strip()) and lines[i].strip().endswith("[ ]"):
                 cases.append(lines[i].strip())
+                name = cases[0].split()[0]
             elif cases and lines[i].startswith("   "):
                 cases[-1] += " " + lines[i].strip()
             i += 1
@@ -55,8 +56,14 @@ def main():
                         break
                 j += 1
             j = last + 1
-            while j < len(text) and text[j].startswith(pad + " ") and text[j].strip():
-                j += 1
+            while True:
+                k = j
+                while k < len(text) and not text[k].strip():
+                    k += 1
+                if k < len(text) and text[k].startswith(pad + " "):
+                    j = k + 1
+                else:
+                    break
             text[j:j] = [pad + c for c in cases]
             print(f"{path}:{row}: {name}: {len(cases)}")
         open(path, "w", encoding="utf-8").write("\n".join(text))

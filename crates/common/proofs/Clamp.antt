@@ -66,12 +66,18 @@ round-real s n d D = abs-real (round binary64 s n d) (rw (abs-round binary64 s n
 mul-real : (x y : Float) → T (finite x) → T (finite y) → real (mul binary64 x y)
 unfolding mul
 mul-real (fin s m e) (fin t n d) F G = round-real (unlike s t) (m * up e * (n * up d)) (down e * down d) (mul-pos (down_pos e) (down_pos d))
+mul-real nan y F G = elim F [ ]
+mul-real (inf _) y F G = elim F [ ]
+mul-real (fin s m e) nan F G = elim G [ ]
+mul-real (fin s m e) (inf _) F G = elim G [ ]
 
 add-real : (x y : Float) → T (finite x) → real y → real (add binary64 x y)
 unfolding is_nan
 add-real x nan F p = absurd p
 add-real (fin s m e) (inf t) F p = unfold add in tt
 add-real x (fin t n d) F p = let r = add-rounded x (fin t n d) F tt in rw r.is (unfold is_nan in round-real r.sign r.size _ (mul-pos (den_pos x) (down_pos d)))
+add-real nan (inf t) F p = elim F [ ]
+add-real (inf _) (inf t) F p = elim F [ ]
 
 -- a step as a divisor
 pub step-size : (low high step : Float) → FloatStepRules low high step → T (finite step && le (power (negsuc 51)) (abs step))

@@ -72,6 +72,8 @@ den-abs (fin s m e) = refl
 
 finite-abs : (x : Float) → T (finite x) → T (finite (abs x))
 finite-abs (fin s m e) F = tt
+finite-abs nan F = elim F [ ]
+finite-abs (inf _) F = elim F [ ]
 
 quotient_is : (s : Bool) (m : ℕ) (e : ℤ) (t : Bool) (n : ℕ) (d : ℤ) → 0 < n * up d → abs (div binary64 (fin s m e) (fin t n d)) ≡ round binary64 false (m * up e * down d) (n * up d * down e)
 unfolding div
@@ -81,6 +83,10 @@ quotient-ratio : (x y : Float) → T (finite x) → T (finite y) → 0 < num y �
 quotient-ratio (fin s m e) (fin t k d) F G Y H n h =
     let q = div binary64 (fin s m e) (fin t k d) in
     rounded-ratio (m * up e * down d) (k * up d * down e) (abs q) (mul-pos Y (down_pos e)) (quotient_is s m e t k d Y) (finite-abs q H) n (rw (num-abs q, den-abs q) h)
+quotient-ratio nan y F G Y H n h = elim F [ ]
+quotient-ratio (inf _) y F G Y H n h = elim F [ ]
+quotient-ratio (fin s m e) nan F G Y H n h = elim G [ ]
+quotient-ratio (fin s m e) (inf _) F G Y H n h = elim G [ ]
 
 -- ---- the number of steps
 
@@ -122,6 +128,8 @@ count (fin s m e) F p l = go s (bit-of false s m e p) l
           few = h;
           most = div-mul-le_self (m * up e) (down e);
         }
+count nan F p l = elim F [ ]
+count (inf _) F p l = elim F [ ]
 
 -- ---- j steps
 
@@ -139,6 +147,13 @@ product-within j (fin t n d) (fin false k g) h F B f l = go (round binary64 fals
         unfold mul in rw (abs-round binary64 (unlike s t) (m * up e * (n * up d)) (down e * down d), ← held binary64 false k g f)
         (round_mono binary64 (m * up e * (n * up d)) (down e * down d) (k * up g) (down g) (mul-pos (down_pos e) (down_pos d)) (down_pos g)
         (cancel (m * up e) (down e) (n * up d) (down g) (k * up g) (down d) v.1 l))
+    go nan v = elim v [ ]
+    go (inf _) v = elim v [ ]
+product-within j nan c h F B f l = elim F [ ]
+product-within j (inf _) c h F B f l = elim F [ ]
+product-within j (fin t n d) nan h F B f l = elim B [ ]
+product-within j (fin t n d) (inf _) h F B f l = elim B [ ]
+product-within j (fin t n d) (fin true k g) h F B f l = elim B [ ]
 
 -- j ≤ n, n * step is at most q / p of D, D is at most B, and q / p of B is at most C
 steps-cross : (j n u v x y b b' c c' p q : ℕ) → j ≤ n → n * (u * y) * p ≤ x * v * q → x * b' ≤ b * y → b * c' * q ≤ c * b' * p → 0 < y → 0 < b' → 0 < p → j * u * c' ≤ c * v
@@ -176,6 +191,8 @@ highest = record { ends = tt; difference = tt; B-bound = tt; C-bound = tt; C-fit
 
 above-num : (x : Float) → T (finite x) → T (lt zero_f x) → 0 < num x
 above-num (fin s m e) F h = mul-pos (zero-lt s m e h).1 (up_pos e)
+above-num nan F h = elim F [ ]
+above-num (inf _) F h = elim F [ ]
 
 whole-finite : (j : ℕ) → j ≤ 2 ^ 53 → T (finite (of_int binary64 (pos j)))
 unfolding of_int
@@ -183,6 +200,8 @@ whole-finite j h = go (round binary64 false j 1) (round_whole binary64 false j h
   where
     go : (x : Float) → HasValue x false j 1 → T (finite x)
     go (fin s m e) v = tt
+    go nan v = elim v [ ]
+    go (inf _) v = elim v [ ]
 
 whole-sign : (j : ℕ) → Sign false (of_int binary64 (pos j))
 whole-sign j = unfold of_bits of_int in of_int-mono (pos 0) (pos j) (le→leb 0 j zero-le)

@@ -1,0 +1,16 @@
+use Prim.Native.Nat.{◌-◌, ◌≤◌}
+use mathlib.Core.Path.{◌≡◌, refl}
+use native.Mathlib.Nat.{suc-mul, mul-le-mul_right}
+use native.Mathlib.Omega.{arith}
+use lib.Ieee.{of_bits}
+use Rattle.arith.specs.Lists.{padded}
+use Rattle.factor.specs.Triangle.{rows_of}
+use Rattle.gp_model.specs.Kernels.{covariance_of}
+use borrow.Author.Rules.{rules}
+use Rattle.gp_model.proofs.kernels.kernel_matrix.Given as goal
+
+abbrev pub invariant-loop-i : goal.invariant-loop-i
+invariant-loop-i l = (l.i ≤ l.n) × (l.out ≡ padded 5050 (rows_of (covariance_of l.x l.d l.lengthscales l.noise_var) l.i))
+
+abbrev pub decreases-loop-i : goal.decreases-loop-i
+decreases-loop-i l = l.n - l.i

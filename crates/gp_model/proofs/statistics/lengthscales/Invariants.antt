@@ -1,0 +1,16 @@
+use Prim.Native.Nat.{◌-◌, ◌≤◌}
+use mathlib.Core.Path.{◌≡◌, refl}
+use native.Mathlib.Numerals.{add-one}
+use native.Mathlib.Omega.{arith}
+use lib.Ieee.{of_bits}
+use Rattle.arith.specs.Lists.{grown, list_of, padded}
+use Rattle.arith.proofs.Lists.{grown-set}
+use Rattle.gp_model.specs.Statistics.{lengthscale_of}
+use borrow.Author.Rules.{rules}
+use Rattle.gp_model.proofs.statistics.lengthscales.Given as goal
+
+abbrev pub invariant-loop-j : goal.invariant-loop-j
+invariant-loop-j l = (l.j ≤ l.d) × (l.out ≡ padded 20 (list_of (lengthscale_of l.x l.n l.d) l.j))
+
+abbrev pub decreases-loop-j : goal.decreases-loop-j
+decreases-loop-j l = l.d - l.j

@@ -1,0 +1,19 @@
+use Prim.Native.Nat.{ℕ, ◌+◌, ◌-◌, ◌*◌, ◌≤◌}
+use mathlib.Core.Path.{◌≡◌, refl, sym, ap, ◌∙◌}
+use mathlib.Core.Bool.{true}
+use native.Mathlib.Numerals.{add-one}
+use native.Mathlib.Omega.{arith}
+use borrow.Author.Tests.{not-true, not-false}
+use Rattle.arith.specs.Lists.{every}
+use Rattle.arith.proofs.Lists.{every-not}
+use Rattle.history_rows.proofs.Parts.{part}
+use Rattle.history_rows.specs.First.{like_first, row_like_first}
+use Rattle.history_rows.specs.Rows.{slot_at}
+use borrow.Author.Rules.{rules}
+use Rattle.history_rows.proofs.tests.row_like_first.Given as goal
+
+abbrev pub invariant-loop-s : goal.invariant-loop-s
+invariant-loop-s l = (l.s ≤ l.n) × (every l.s (λ k. like_first l.n l.m l.r (slot_at l.row k)) ≡ true)
+
+abbrev pub decreases-loop-s : goal.decreases-loop-s
+decreases-loop-s l = l.n - l.s

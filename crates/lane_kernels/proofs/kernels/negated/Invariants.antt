@@ -1,0 +1,17 @@
+use Prim.Native.Nat.{◌-◌, ◌≤◌}
+use mathlib.Core.Path.{◌≡◌, refl}
+use native.Mathlib.Numerals.{add-one}
+use native.Mathlib.Omega.{arith}
+use lib.ListN.{get_or}
+use lib.Ieee.{nan, neg, of_bits}
+use Rattle.arith.specs.Lists.{grown, list_of, padded}
+use Rattle.arith.proofs.Lists.{grown-set}
+use Rattle.lanes.proofs.Rows.{eight-all}
+use borrow.Author.Rules.{rules}
+use Rattle.lane_kernels.proofs.kernels.negated.Given as goal
+
+abbrev pub invariant-loop-p : goal.invariant-loop-p
+invariant-loop-p l = (l.p ≤ 8) × (l.out ≡ padded 8 (list_of (λ p. neg (get_or l.q p nan)) l.p))
+
+abbrev pub decreases-loop-p : goal.decreases-loop-p
+decreases-loop-p l = 8 - l.p

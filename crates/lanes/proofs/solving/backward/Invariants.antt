@@ -1,0 +1,14 @@
+use Prim.Native.Nat.{◌≤◌, ◌-◌}
+use mathlib.Core.Path.{refl}
+use native.Mathlib.Numerals.{add-one}
+use native.Mathlib.Omega.{arith}
+use lib.Ieee.{of_bits}
+use Rattle.lanes.proofs.Backward.{Known, known-none, known_more, known-all}
+use borrow.Author.Rules.{rules}
+use Rattle.lanes.proofs.solving.backward.Given as goal
+
+abbrev pub invariant-loop-m : goal.invariant-loop-m
+invariant-loop-m l = (l.m ≤ l.n) × Known l.l l.z l.n l.m l.x
+
+abbrev pub decreases-loop-m : goal.decreases-loop-m
+decreases-loop-m l = l.n - l.m

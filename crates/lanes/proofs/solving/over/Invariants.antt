@@ -1,0 +1,17 @@
+use Prim.Native.Nat.{◌-◌, ◌≤◌}
+use mathlib.Core.Path.{◌≡◌, refl}
+use native.Mathlib.Numerals.{add-one}
+use native.Mathlib.Omega.{arith}
+use lib.ListN.{get_or}
+use Rattle.arith.specs.Lists.{grown, list_of, padded}
+use Rattle.arith.proofs.Lists.{grown-set}
+use Rattle.lanes.proofs.Rows.{eight-all}
+use lib.Ieee.{nan, binary64, div, of_bits}
+use borrow.Author.Rules.{rules}
+use Rattle.lanes.proofs.solving.over.Given as goal
+
+abbrev pub invariant-loop-p : goal.invariant-loop-p
+invariant-loop-p l = (l.p ≤ 8) × (l.out ≡ padded 8 (list_of (λ p. div binary64 (get_or l.s p nan) l.v) l.p))
+
+abbrev pub decreases-loop-p : goal.decreases-loop-p
+decreases-loop-p l = 8 - l.p

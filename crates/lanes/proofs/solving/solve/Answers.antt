@@ -1,0 +1,20 @@
+-- `lanes::solving::solve` meets its contract: forward, then backward. Assumes nothing.
+use mathlib.Core.Path.{ap}
+use native.Mathlib.Omega.{arith}
+use borrow.Author.Tests.{le-leb, lt-leb}
+use lib.Ieee.{of_bits}
+use Rattle.lanes.specs.Rows.{rows_of}
+use Rattle.lanes.specs.Solving.{solve_lanes_of}
+use Rattle.lanes.proofs.Solved.{solved-lanes}
+use borrow.Author.Rules.{rules}
+use Rattle.lanes.proofs.solving.solve.Goals as goal
+
+pub returns-then-n-gt100 : goal.returns-then-n-gt100
+unfolding solve_lanes_of of_bits
+returns-then-n-gt100 c = rw (lt-leb c.args.n 100 (omega arith))
+
+pub returns : goal.returns
+unfolding solve_lanes_of
+returns c =
+    let g = c.args in
+    rw (c.backward.ensures, c.forward-z.ensures, le-leb g.n 100 (omega arith)) (ap rows_of (solved-lanes g.l.now g.b.now g.n (omega arith)))

@@ -1,0 +1,18 @@
+use Prim.Native.Nat.{◌-◌, ◌≤◌}
+use mathlib.Core.Path.{◌≡◌, refl}
+use native.Mathlib.Numerals.{add-one}
+use native.Mathlib.Omega.{arith}
+use borrow.Author.Tests.{le-leb, lt-leb}
+use lib.ListN.{length, get_or}
+use lib.Ieee.{nan, binary64, mul, of_bits}
+use Rattle.lanes.specs.Rows.{cell}
+use Rattle.lanes.specs.Sums.{dot_each_of}
+use Rattle.lanes.proofs.Summed.{Summed, summed-none, summed-more}
+use borrow.Author.Rules.{rules}
+use Rattle.lanes.proofs.sums.dot_each.Given as goal
+
+abbrev pub invariant-loop-i : goal.invariant-loop-i
+invariant-loop-i l = (l.i ≤ l.n) × Summed l.i (λ p k. mul binary64 (cell l.a k p) (get_or l.b k nan)) l.s
+
+abbrev pub decreases-loop-i : goal.decreases-loop-i
+decreases-loop-i l = l.n - l.i

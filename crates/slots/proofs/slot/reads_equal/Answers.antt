@@ -1,0 +1,6 @@
+-- `slots::slot::reads_equal` meets its contract. Assumes nothing.
+use borrow.Author.Rules.{rules}
+use Rattle.slots.proofs.slot.reads_equal.Goals as goal
+
+pub returns-in-WellFormed-b : goal.returns-in-WellFormed-b
+returns-in-WellFormed-b c = rw (c.in-WellFormed.is, c.in-WellFormed-b.is) c.equal.ensures
