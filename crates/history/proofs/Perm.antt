@@ -1,5 +1,5 @@
 -- What is the same of a list in any order: a test of all elements, a test of all pairs, a fold whose steps commute, and the one element that a test picks. Assumes nothing.
-use mathlib.Core.Path.{◌≡◌, refl, sym, ◌∙◌, subst}
+use mathlib.Core.Path.{◌≡◌, refl, sym, ap, ◌∙◌, subst}
 use mathlib.Core.Bool.{Bool, true, false, not, ◌&&◌, cond}
 use mathlib.Core.Logic.{inl, inr}
 use mathlib.Core.List.Permᴰ
@@ -69,8 +69,11 @@ module _ {A : Type 0} where
     pub pairs-perm : {xs ys : List A} → Permᴰ xs ys → pairs r xs ≡ pairs r ys
     pairs-perm Permᴰ.nil = refl
     pairs-perm (Permᴰ.cons {b = b} e p) = rw (e, pairs-perm p, all-perm (λ y. r y b) p)
-    pairs-perm (Permᴰ.swap {a = a} {b = b} {l = l} d e) =
-        rw (← d, ← e, r-sym b a) (and-middle (pairs r l) (all (λ y. r y b) l) (all (λ y. r y a) l) (r a b))
+    pairs-perm (Permᴰ.swap {a = a} {b = b} {b' = b'} {l = l} d e) =
+        let two : A → A → Bool = λ v w. pairs r l && all (λ y. r y v) l && (all (λ y. r y w) l && r v w) in
+        ap (λ (t : Bool). pairs r l && all (λ y. r y b) l && (all (λ y. r y a) l && t)) (r-sym b a)
+        ∙ and-middle (pairs r l) (all (λ y. r y b) l) (all (λ y. r y a) l) (r a b)
+        ∙ ap (λ (v : A). two v b) d ∙ ap (two b') e
     pairs-perm (Permᴰ.trans p q) = pairs-perm p ∙ pairs-perm q
 
     -- a fold whose steps commute at two elements of which the test holds

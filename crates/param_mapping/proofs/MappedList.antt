@@ -2,7 +2,7 @@
 use Prim.Native.Nat.{ℕ, zero, suc, ◌+◌, ◌*◌, ◌≤◌, ◌<◌}
 use native.Mathlib.Omega.{arith}
 use mathlib.Core.Path.{◌≡◌, refl, sym, ap, ◌∙◌, subst}
-use mathlib.Core.Bool.{Bool, not, ◌&&◌}
+use mathlib.Core.Bool.{Bool, not, cond, ◌&&◌}
 use mathlib.Core.List.{List, [], ◌∷◌}
 use lib.ListN.{length, get_or, set, take, replicate, get_or-replicate}
 use lib.Seq.{take-nil, drop-nil, set-get_or}
@@ -13,9 +13,9 @@ use Rattle.distribution.specs.declared.Read.{Read}
 use Rattle.dimensions.specs.declared.DimensionInfo.{DimensionInfo}
 use Rattle.param_mapping.specs.declared.Mapped.{Mapped}
 use Rattle.dimensions.specs.Dimensions.{dimension_at}
-use Rattle.param_mapping.specs.Mapping.{none, entries_of, first_entry, is_mapped, consumed_of, matches_of, mapped_of}
-use Rattle.history_rows.specs.Rows.{width_of, row_at}
-use Rattle.slots.specs.Slot.{id_of}
+use Rattle.param_mapping.specs.Mapping.{none, insert_by_id, entries_of, first_entry, is_mapped, consumed_of, matches_of, mapped_of}
+use Rattle.history_rows.specs.Rows.{width_of, row_at, slot_at}
+use Rattle.slots.specs.Slot.{id_of, present}
 use Rattle.slots.specs.Slot.{slot_read, reads_equal}
 use Rattle.param_mapping.proofs.Least.{first-same}
 
@@ -41,10 +41,14 @@ mapped-set n dims j row h =
 
 -- ---- a row of no words
 
+no-slot : (n : ℕ) → slot_at [] n ≡ []
+no-slot n = ap (take 8) (drop-nil {A = ℕ} (3 + 8 * n)) ∙ take-nil {A = ℕ} 8
+
 no-entries : (n : ℕ) → entries_of [] n ≡ []
 unfolding entries_of
 no-entries zero = refl
-no-entries (suc n) = rw (drop-nil {A = ℕ} (3 + 8 * n), take-nil {A = ℕ} 8) (no-entries n)
+no-entries (suc n) =
+    subst (λ (s : List ℕ). cond (present s) (insert_by_id s (entries_of [] n)) (entries_of [] n) ≡ []) (sym (no-slot n)) (no-entries n)
 
 pub mapped-none : (n : ℕ) (dims : List DimensionInfo) (k : ℕ) → k ≤ 20 → filled none 20 (mapped_of n dims k []) ≡ filled none 20 []
 mapped-none n dims zero h = unfold mapped_of grown in refl

@@ -6,7 +6,7 @@ pub mod matching;
 pub use matching::establish_param_mapping;
 
 // The parameter id of a dimension, or that it has none (with the id 0).
-#[derive(Drop)]
+#[derive(Clone, Copy)]
 pub struct Mapped {
     pub found: bool,
     pub id: u64,

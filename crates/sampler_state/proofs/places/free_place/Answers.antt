@@ -29,12 +29,12 @@ pub returns-then-not-is_taken : goal.returns-then-not-is_taken
 unfolding free_place
 returns-then-not-is_taken c =
     let h = c.loop-i-test.true in
-    sym (place_is 32 _ c.loop-i.i h c.loop-i.invariant.1 (ap not (sym (ap taken (same (goal.at.returns-then-not-is_taken c).Start _ c.loop-i.i h)) ∙ sym c.is_taken.ensures) ∙ c.if-not-is_taken.true))
+    sym (place_is 32 _ c.loop-i.i h c.loop-i.invariant.1 (ap not (sym (ap taken (same (goal.at.returns-then-not-is_taken c).Start _ c.loop-i.i h)) ∙ sym c.is_taken.ensures) ∙ ap not c.if-not-is_taken.true))
 
 pub loop-i-preserved : goal.loop-i-preserved
 unfolding every
 loop-i-preserved c =
-    let e = ap not (sym (ap taken (same (goal.at.loop-i-preserved c).Start _ c.loop-i.i c.loop-i-test.true)) ∙ sym c.is_taken.ensures) ∙ c.if-not-is_taken.false in
+    let e = ap not (sym (ap taken (same (goal.at.loop-i-preserved c).Start _ c.loop-i.i c.loop-i-test.true)) ∙ sym c.is_taken.ensures) ∙ ap not c.if-not-is_taken.false in
     (search rules, rw (add-one, c.loop-i.invariant.1, e))
 
 pub returns : goal.returns

@@ -1,0 +1,22 @@
+use native.Mathlib.Nat.{mul-le-mul}
+use Prim.Native.Nat.{ℕ, ◌-◌, ◌*◌, ◌/◌, ◌%◌, ◌≤◌, ◌<◌}
+use mathlib.Core.Path.{◌≡◌, refl, ap, ◌∙◌}
+use native.Mathlib.Numerals.{add-one}
+use native.Mathlib.Omega.{arith}
+use lib.ListN.{length, get_or}
+use lib.Ieee.{of_bits}
+use Rattle.arith.specs.Lists.{grown, list_of, padded}
+use Rattle.arith.proofs.Lists.{grown-set}
+use Rattle.history_rows.specs.Rows.{width_of, row_at}
+use Rattle.history.specs.Training.{column_of, x_of}
+use Rattle.history.proofs.KeptRows.{asked}
+use Rattle.history_rows.proofs.Parts.{part, lent_length}
+use borrow.Author.Rules.{rules}
+use Rattle.history.proofs.building.x_train.Given as goal
+
+abbrev pub invariant-loop-p : goal.invariant-loop-p
+invariant-loop-p l =
+    (l.p ≤ length l.kept * length l.columns) × (l.out ≡ padded 2000 (list_of (λ q. column_of l.n l.dims l.mapping (row_at l.n l.r (get_or l.kept (q / length l.columns) 0)) (get_or l.columns (q % length l.columns) 0)) l.p))
+
+abbrev pub decreases-loop-p : goal.decreases-loop-p
+decreases-loop-p l = length l.kept * length l.columns - l.p

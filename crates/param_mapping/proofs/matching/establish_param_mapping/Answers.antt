@@ -1,0 +1,47 @@
+-- `param_mapping::matching::establish_param_mapping` meets its contract. Assumes nothing.
+use Prim.Native.Nat.{ℕ}
+use mathlib.Core.Path.{◌≡◌, sym, ap, ◌∙◌}
+use mathlib.Core.List.{List}
+use native.Mathlib.Omega.{arith}
+use borrow.Author.Tests.{eq-eqb, ne_eqb}
+use Rattle.param_mapping.proofs.Opened.{Recent, recent}
+use Rattle.history_rows.proofs.Recent.{recent-part, recent-whole}
+use borrow.Author.Rules.{rules}
+use Rattle.arith.specs.Lists.{filled}
+use Rattle.param_mapping.specs.Mapping.{none, mapped_of, mapping_of}
+use Rattle.history_rows.specs.Rows.{row_at, recent_of}
+use Rattle.param_mapping.proofs.matching.establish_param_mapping.Goals as goal
+use Rattle.param_mapping.proofs.matching.establish_param_mapping.Goals.{After-recent_part-recent}
+
+pub returns-then-number-ne0 : goal.returns-then-number-ne0
+unfolding mapping_of
+returns-then-number-ne0 c = rw (sym c.number-number.ensures, ne_eqb c.number-number.result 0 c.if-number-ne0.true)
+
+-- what is known of a history that is not refused, and of its recent rows
+known : (c : After-recent_part-recent) → let a = c.args in Recent a.slots a.k a.h.now c.recent_part-recent.result
+known c =
+    let a = c.args in
+    recent a.slots a.dims a.k a.h.now c.recent_part-recent.result (sym c.number-number.ensures ∙ c.if-number-ne0.false) c.recent_part-recent.ensures
+
+pub offset_bounds-h-start : goal.offset_bounds-h-start
+offset_bounds-h-start c = let l = (known (goal.at.offset_bounds-h-start c).After-recent_part-recent).inside in omega arith
+
+pub slice_bounds-recent_mapping-count : goal.slice_bounds-recent_mapping-count
+slice_bounds-recent_mapping-count c = let l = (known (goal.at.slice_bounds-recent_mapping-count c).After-recent_part-recent).inside in omega arith
+
+pub slice_bounds-recent_mapping-start : goal.slice_bounds-recent_mapping-start
+slice_bounds-recent_mapping-start c = let l = (known (goal.at.slice_bounds-recent_mapping-start c).After-recent_part-recent).inside in omega arith
+
+pub recent_mapping-ids-requires : goal.recent_mapping-ids-requires
+recent_mapping-ids-requires c =
+    let k = known (goal.at.recent_mapping-ids-requires c).After-recent_part-recent in
+    let a = c.args in
+    rw (recent-part a.slots a.h.now c.recent_part-recent.result.start k.start, k.rows) (k.slots, k.few, recent-whole a.slots a.h.now k.whole)
+
+pub returns : goal.returns
+unfolding mapping_of
+returns c =
+    let a = c.args in
+    let e : c.recent_mapping-ids.result ≡ filled none 20 (mapped_of a.slots a.dims a.k (row_at a.slots (recent_of a.slots a.h.now) 0)) =
+    c.recent_mapping-ids.ensures ∙ ap (λ (r : List ℕ). filled none 20 (mapped_of a.slots a.dims a.k (row_at a.slots r 0))) (recent-part a.slots a.h.now c.recent_part-recent.result.start (known (goal.at.returns c).After-recent_part-recent).start) in
+    rw (sym c.number-number.ensures, eq-eqb c.number-number.result 0 c.if-number-ne0.false, e)

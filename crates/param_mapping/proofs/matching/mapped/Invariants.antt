@@ -1,0 +1,15 @@
+use Rattle.param_mapping.proofs.MappedList.{mapped-set}
+use Prim.Native.Nat.{ℕ, ◌-◌, ◌≤◌, ◌<◌}
+use mathlib.Core.Path.{◌≡◌, refl, sym, ap, ◌∙◌}
+use native.Mathlib.Numerals.{add-one}
+use native.Mathlib.Omega.{arith}
+use Rattle.arith.specs.Lists.{grown, filled}
+use Rattle.param_mapping.specs.Mapping.{none, mapped_of}
+use borrow.Author.Rules.{rules}
+use Rattle.param_mapping.proofs.matching.mapped.Given as goal
+
+abbrev pub invariant-loop-j : goal.invariant-loop-j
+invariant-loop-j l = (l.j ≤ l.k) × (l.out ≡ filled none 20 (mapped_of l.n l.dims l.j l.row))
+
+abbrev pub decreases-loop-j : goal.decreases-loop-j
+decreases-loop-j l = l.k - l.j

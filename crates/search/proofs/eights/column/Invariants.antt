@@ -1,0 +1,17 @@
+use Prim.Native.Nat.{◌-◌, ◌≤◌}
+use mathlib.Core.Path.{◌≡◌, refl}
+use native.Mathlib.Numerals.{add-one}
+use native.Mathlib.Omega.{arith}
+use lib.ListN.{get_or}
+use lib.Ieee.{binary64, of_bits}
+use Rattle.arith.specs.Lists.{grown, list_of, filled, padded}
+use Rattle.arith.proofs.Lists.{grown-set, grown-filled-set, eight-filled}
+use Rattle.rng_util.specs.Draws.{unit_draw_of}
+use borrow.Author.Rules.{rules}
+use Rattle.search.proofs.eights.column.Given as goal
+
+abbrev pub invariant-loop-p : goal.invariant-loop-p
+invariant-loop-p l = (l.p ≤ 8) × (l.values ≡ padded 8 (list_of (λ p. (unit_draw_of (get_or l.words p 0)).value) l.p)) × (l.next ≡ filled 0 8 (list_of (λ p. (unit_draw_of (get_or l.words p 0)).next) l.p))
+
+abbrev pub decreases-loop-p : goal.decreases-loop-p
+decreases-loop-p l = 8 - l.p

@@ -1,0 +1,20 @@
+use Prim.Native.Nat.{ℕ, ◌-◌, ◌≤◌, ◌<◌}
+use mathlib.Core.Path.{◌≡◌, refl}
+use native.Mathlib.Numerals.{add-one}
+use native.Mathlib.Omega.{arith}
+use lib.ListN.{get_or}
+use lib.Ieee.{of_bits}
+use Rattle.arith.specs.Lists.{grown}
+use Rattle.arith.proofs.Lists.{grown-filled-set}
+use Rattle.lanes.specs.Rows.{zero_row}
+use Rattle.rng_util.specs.Generator.{moved_of}
+use Rattle.search.specs.Eights.{points_of}
+use Rattle.search.proofs.Beside.{column-values, column-next}
+use borrow.Author.Rules.{rules}
+use Rattle.search.proofs.eights.points.Given as goal
+
+abbrev pub invariant-loop-j : goal.invariant-loop-j
+invariant-loop-j l = (l.j ≤ l.d) × (l.out ≡ points_of l.j l.words) × ((p : ℕ) → p < 8 → get_or l.at p 0 ≡ moved_of l.j (get_or l.words p 0))
+
+abbrev pub decreases-loop-j : goal.decreases-loop-j
+decreases-loop-j l = l.d - l.j

@@ -1,0 +1,17 @@
+use Prim.Native.Nat.{◌-◌, ◌*◌, ◌≤◌}
+use mathlib.Core.Path.{◌≡◌, refl}
+use native.Mathlib.Numerals.{add-one}
+use native.Mathlib.Omega.{arith}
+use Rattle.arith.specs.Lists.{grown, list_of, filled}
+use Rattle.arith.proofs.Lists.{grown-filled-set, eight-filled}
+use Rattle.rng_util.specs.Generator.{moved_of}
+use Rattle.rng_util.proofs.Nonzero.{moved-nonzero}
+use Rattle.search.proofs.Beside.{word_after}
+use borrow.Author.Rules.{rules}
+use Rattle.search.proofs.eights.starts.Given as goal
+
+abbrev pub invariant-loop-p : goal.invariant-loop-p
+invariant-loop-p l = (l.p ≤ 8) × (l.words ≡ filled 0 8 (list_of (λ p. moved_of (p * l.d) l.word) l.p)) × (l.next ≡ moved_of (l.p * l.d) l.word)
+
+abbrev pub decreases-loop-p : goal.decreases-loop-p
+decreases-loop-p l = 8 - l.p
