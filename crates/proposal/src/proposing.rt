@@ -91,8 +91,7 @@ pub fn compute_candidate(
         return refused(11, word);
     }
     let v = history_view::view_of(s.slots as usize, s.n_startup_trials, dims, k, h);
-    let t = v.training;
-    let number = t.number;
+    let number = v.training.number;
     if number != 0 {
         return refused(number, word);
     }

@@ -1,2 +1,0 @@
-mod Draw
-mod Params

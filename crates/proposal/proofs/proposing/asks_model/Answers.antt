@@ -1,0 +1,6 @@
+-- `proposal::proposing::asks_model` meets its contract. Assumes nothing.
+use borrow.Author.Rules.{rules}
+use Rattle.proposal.proofs.proposing.asks_model.Goals as goal
+
+pub returns-then-reached : goal.returns-then-reached
+returns-then-reached c = rw c.if-reached.true
