@@ -313,7 +313,7 @@ def turn(path, f, module, said):
             new, at = goals[name]
             eq = next(i for i, x in enumerate(lines) if re.match(re.escape(name) + r"(?=[\s=])", x) and i > 0)
             body = "\n".join(lines[eq:])
-            m = re.match(rf"{re.escape(name)} (\S+)((?: κs| _)?) =", body)
+            m = re.match(rf"{re.escape(name)} (\S+)((?: \S+)*?) =", body)
             if not m:
                 said.append("equation: " + body[:100])
                 ans.append("\n".join(comment + lines))
@@ -322,7 +322,7 @@ def turn(path, f, module, said):
             if rest.strip() in ("search rules", "search needs"):
                 continue
             rest = plain(t.body(rest, at, m[1], new))
-            ans.append("\n".join(comment + [f"pub {new} : goal.{new}"] + [x for x in lines[1:eq] if x.startswith("unfolding")] + [f"{new} {m[1]} ={rest}"]))
+            ans.append("\n".join(comment + [f"pub {new} : goal.{new}"] + [x for x in lines[1:eq] if x.startswith("unfolding")] + [f"{new} {m[1]}{m[2].replace(' κs', '')} ={rest}"]))
             continue
         m = re.search(r"\((\w+) : tie\.([^\s)]+)", lines[0])
         if m:

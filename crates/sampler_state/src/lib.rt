@@ -21,7 +21,7 @@ pub struct Place {
 }
 
 // A sampler: in discovery until it is active. Without dimensions there is no discovery trial yet.
-#[derive(Drop)]
+#[derive(Clone, Copy)]
 pub struct Sampler {
     pub settings: Settings,
     pub word: u64,

@@ -17,7 +17,7 @@ pub enum Stage {
 }
 
 // Between two lines: the line awaited, the sampler as it is then, and how many words of the history there are.
-#[derive(Drop)]
+#[derive(Clone, Copy)]
 pub struct Reader {
     pub stage: Stage,
     pub sampler: Sampler,

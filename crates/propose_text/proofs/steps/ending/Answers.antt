@@ -1,0 +1,7 @@
+-- `propose_text::steps::ending` meets its contract. Assumes nothing.
+use Rattle.propose_lines.proofs.AnswerLine.{whole-line}
+use borrow.Author.Rules.{rules}
+use Rattle.propose_text.proofs.steps.ending.Goals as goal
+
+returns : tie.Need-returns
+returns c h = rw (c.answer-line.ensures, whole-line 0 0 _ 0)

@@ -1,0 +1,30 @@
+-- `sampler::calls::sample` meets its contract. Assumes nothing.
+use Rattle.sampler_state.proofs.Checked.{dimensions-few}
+use mathlib.Core.Path.{◌≡◌, sym, ◌∙◌}
+use mathlib.Core.Bool.{true}
+use borrow.Author.Tests.{not-true, not-false}
+use Rattle.arith.proofs.Tests.{taken}
+use Rattle.sampler_laws.specs.Calls.{sample_of}
+use Rattle.sampler_state.specs.State.{sampler_ok}
+use borrow.Author.Rules.{rules}
+use Rattle.sampler.proofs.calls.sample.Goals as goal
+use Rattle.sampler.proofs.calls.sample.Goals.{Else-not-sampler_ok}
+
+pub returns-then-not-sampler_ok : goal.returns-then-not-sampler_ok
+unfolding sample_of
+returns-then-not-sampler_ok c = rw (c.refused.ensures, sym c.sampler_ok.ensures, c.if-not-sampler_ok.true)
+
+-- the sampler is well-formed
+passed : (c : Else-not-sampler_ok) → sampler_ok c.args.s ≡ true
+passed c = sym c.sampler_ok.ensures ∙ c.if-not-sampler_ok.false
+
+pub asked-requires : goal.asked-requires
+asked-requires c = dimensions-few _ (passed (goal.at.asked-requires c).Else-not-sampler_ok)
+
+pub returns-in-WellFormed : goal.returns-in-WellFormed
+unfolding sample_of
+returns-in-WellFormed c = rw (c.asked.ensures, passed (goal.at.returns-in-WellFormed c).Else-not-sampler_ok, sym c.distribution_of.ensures, c.in-WellFormed.is)
+
+pub returns-in-Malformed : goal.returns-in-Malformed
+unfolding sample_of
+returns-in-Malformed c = rw (c.refused-in-Malformed.ensures, passed (goal.at.returns-in-Malformed c).Else-not-sampler_ok, sym c.distribution_of.ensures, c.in-Malformed.is)

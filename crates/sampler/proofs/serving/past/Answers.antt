@@ -1,0 +1,6 @@
+-- `sampler::serving::past` meets its contract. Assumes nothing.
+use borrow.Author.Rules.{rules}
+use Rattle.sampler.proofs.serving.past.Goals as goal
+
+pub returns : goal.returns
+returns c = rw c.sample_random-r.ensures

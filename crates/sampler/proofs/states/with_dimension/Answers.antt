@@ -1,0 +1,6 @@
+-- `sampler::states::with_dimension` meets its contract. Assumes nothing.
+use borrow.Author.Rules.{rules}
+use Rattle.sampler.proofs.states.with_dimension.Goals as goal
+
+pub returns : goal.returns
+returns c = rw c.dimension.ensures
