@@ -2,8 +2,8 @@
 use borrow.Author.Rules.{rules}
 use Rattle.propose_text.proofs.steps.after_names.Goals as goal
 
-returns : tie.Need-returns
-returns c h = rw c.before.if1.true (c.awaiting.ensures h)
+pub returns-then-ok : goal.returns-then-ok
+returns-then-ok c h = rw c.if-ok.true (c.awaiting.ensures h)
 
-returns-2 : tie.Need-returns-2
-returns-2 c h = rw c.before.if1.false (c.ending.ensures h)
+pub returns : goal.returns
+returns c h = rw c.if-ok.false (c.ending.ensures h)

@@ -21,13 +21,14 @@ words-there : (c : Else-not-read_words) → is_words 7 c.args.line.now ≡ true
 words-there c = sym c.read_words.ensures.is ∙ c.if-not-read_words.false
 
 -- word i of the line, as the code has it
-word : (c : Else-not-read_words) (i : ℕ) → i < 7 → get_or c.read_words.new.1.1.0 i 0 ≡ get_or (words_in 7 c.args.line.now) i 0
-word c = let r = c.read_words in read_at 7 r.new.1.1.0 _ (r.ensures.read c.if-not-read_words.false)
+word : (c : Else-not-read_words) (i : ℕ) → i < 7 → get_or c.read_words.new.out i 0 ≡ get_or (words_in 7 c.args.line.now) i 0
+word c = let r = c.read_words in read_at 7 r.new.out _ (r.ensures.read c.if-not-read_words.false)
 
 -- the answer is that of the definition
 answer : (c : After-called-a) → let a = c.args in sampled_of (reading_of a.r a.history.now) (words_in 7 a.line.now) ≡ c.called-a.result
 answer c =
-    let w = word c.before.before in
+    let r = c.read_words in
+    let w = read_at 7 r.new.out c.args.line.now (r.ensures.read c.if-not-read_words.false) in
     sym (rw (w 0 (omega arith), w 1 (omega arith), w 2 (omega arith), w 3 (omega arith), w 4 (omega arith), w 5 (omega arith), w 6 (omega arith)) at c.called-a.ensures)
 
 pub returns : goal.returns

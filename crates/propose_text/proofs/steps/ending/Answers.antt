@@ -3,5 +3,5 @@ use Rattle.propose_lines.proofs.AnswerLine.{whole-line}
 use borrow.Author.Rules.{rules}
 use Rattle.propose_text.proofs.steps.ending.Goals as goal
 
-returns : tie.Need-returns
-returns c h = rw (c.answer-line.ensures, whole-line 0 0 _ 0)
+pub returns : goal.returns
+returns c h = rw (c.answer_line.ensures, whole-line 0 0 _ 0)

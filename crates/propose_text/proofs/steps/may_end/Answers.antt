@@ -2,20 +2,20 @@
 use borrow.Author.Rules.{rules}
 use Rattle.propose_text.proofs.steps.may_end.Goals as goal
 
-returns : tie.Need-returns
-returns c r = rw c.enum_told.given.1
+pub returns-in-SettingsNames : goal.returns-in-SettingsNames
+returns-in-SettingsNames c r = rw c.in-SettingsNames.is
 
-returns-2 : tie.Need-returns-2
-returns-2 c r = rw c.enum-told2.given.1
+pub returns-in-Settings : goal.returns-in-Settings
+returns-in-Settings c r = rw c.in-Settings.is
 
-returns-3 : tie.Need-returns-3
-returns-3 c r = rw c.enum-told3.given.1
+pub returns-in-HistoryNames : goal.returns-in-HistoryNames
+returns-in-HistoryNames c r = rw c.in-HistoryNames.is
 
-returns-4 : tie.Need-returns-4
-returns-4 c r = rw c.enum-told4.given.1
+pub returns-in-History : goal.returns-in-History
+returns-in-History c r = rw c.in-History.is
 
-returns-5 : tie.Need-returns-5
-returns-5 c r = rw c.enum-told5.given.1
+pub returns-in-Calls : goal.returns-in-Calls
+returns-in-Calls c r = rw c.in-Calls.is
 
-returns-6 : tie.Need-returns-6
-returns-6 c r = rw c.enum-told6.given.1
+pub returns-in-Ended : goal.returns-in-Ended
+returns-in-Ended c r = rw c.in-Ended.is

@@ -21,9 +21,6 @@ long c = search rules
 held_same : (c : After-held-at) → let a = c.args in take c.held-at.result a.history.now ≡ take a.r.count a.history.now
 held_same c = let a = c.args in rw c.held-at.ensures (held-part a.r.count a.history.now (long c))
 
-held-long : (c : After-held-at) → let a = c.args in length (take a.r.count a.history.now) ≡ c.held-at.result
-held-long c = let a = c.args in held-length a.r.count a.history.now (long c) ∙ sym c.held-at.ensures
-
 pub returns-then-slots-gt20 : goal.returns-then-slots-gt20
 unfolding row_line
 returns-then-slots-gt20 c =
@@ -37,14 +34,16 @@ read c =
     let a = c.args in
     let k = row_words (slots_of a.r.sampler) in
     let test = room-test k c.held-at.result (length a.history.now) (omega arith) (omega arith) in
-    sym (rw (test, long c.before.before.before.before, sym (held-long c.before.before.before.before)) at c.read_words.ensures.is)
+    let all : length a.history.now ≡ 8192 = search rules in
+    let held : length (take a.r.count a.history.now) ≡ c.held-at.result = held-length a.r.count a.history.now all ∙ sym c.held-at.ensures in
+    sym (rw (test, all, sym held) at c.read_words.ensures.is)
 
 pub returns-then-not-read_words : goal.returns-then-not-read_words
 unfolding row_line
 returns-then-not-read_words c =
     let a = c.args in
     rw (le-leb (slots_of a.r.sampler) 20 c.if-slots-gt20.false, read (goal.at.returns-then-not-read_words c).After-read_words ∙ c.if-not-read_words.true)
-    (rw (c.read_words.ensures.kept, held_same (goal.at.returns-then-not-read_words c).After-held-at) at (c.ending-then-not-read_words.ensures c.read_words.new.1.1.0))
+    (rw (c.read_words.ensures.kept, held_same (goal.at.returns-then-not-read_words c).After-held-at) at (c.ending-then-not-read_words.ensures c.read_words.new.out))
 
 pub returns : goal.returns
 unfolding row_line
@@ -52,4 +51,4 @@ returns c =
     let a = c.args in
     let ok = c.if-not-read_words.false in
     rw (le-leb (slots_of a.r.sampler) 20 c.if-slots-gt20.false, read (goal.at.returns c).After-read_words ∙ ok)
-    (rw (c.read_words.ensures.read ok, held_same (goal.at.returns c).After-held-at) at (c.awaiting.ensures c.read_words.new.1.1.0))
+    (rw (c.read_words.ensures.read ok, held_same (goal.at.returns c).After-held-at) at (c.awaiting.ensures c.read_words.new.out))

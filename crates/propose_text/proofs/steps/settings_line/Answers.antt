@@ -11,9 +11,9 @@ use borrow.Author.Rules.{rules}
 use Rattle.propose_text.proofs.steps.settings_line.Goals as goal
 use Rattle.propose_text.proofs.steps.settings_line.Goals.{After-build-made, Else-not-read_words}
 
-returns : tie.Need-returns
+pub returns-then-not-read_words : goal.returns-then-not-read_words
 unfolding settings_line
-returns c h = rw (sym c.before.before.before.read-words.ensures.is ∙ not-true _ c.before.if1.true) (c.ending.ensures h)
+returns-then-not-read_words c h = rw (sym c.read_words.ensures.is ∙ c.if-not-read_words.true) (c.ending.ensures h)
 
 -- the line is five words
 words-there : (c : Else-not-read_words) → is_words 5 c.args.line.now ≡ true
@@ -24,19 +24,15 @@ made : (c : After-build-made) → make_of (settings_of (words_in 5 c.args.line.n
 made c =
     let line = c.args.line.now in
     let r = c.read_words in
-    let w = read_at 5 r.new.1.1.0 line (r.ensures.read c.if-not-read_words.false) in
+    let w = read_at 5 r.new.out line (r.ensures.read c.if-not-read_words.false) in
     sym (rw (c.settings_of.ensures, w 0 (omega arith), w 1 (omega arith), w 2 (omega arith), w 3 (omega arith), w 4 (omega arith)) at c.build-made.ensures)
 
-returns-2 : tie.Need-returns-2
+pub returns-then-made-ne0 : goal.returns-then-made-ne0
 unfolding settings_line
-returns-2 c h =
-    let b = c.before.before.before in
-    let g = b.before.before in
-    rw (words-there g, made b, ne_eqb _ 0 c.before.if2.true) (c.ending2.ensures h)
+returns-then-made-ne0 c h =
+    rw (words-there (goal.at.returns-then-made-ne0 c).Else-not-read_words, made (goal.at.returns-then-made-ne0 c).After-build-made, ne_eqb _ 0 c.if-made-ne0.true) (c.ending-then-made-ne0.ensures h)
 
-returns-3 : tie.Need-returns-3
+pub returns : goal.returns
 unfolding settings_line
-returns-3 c h =
-    let b = c.before.before.before.before in
-    let g = b.before.before in
-    rw (words-there g, made b, eq-eqb _ 0 c.before.before.if2.false) (c.awaiting.ensures h)
+returns c h =
+    rw (words-there (goal.at.returns c).Else-not-read_words, made (goal.at.returns c).After-build-made, eq-eqb _ 0 c.if-made-ne0.false) (c.awaiting.ensures h)

@@ -23,6 +23,6 @@ none : make_of zeros ≡ record { number = 1; sampler = no_sampler }
 unfolding make_of
 none = rw out_of_range
 
-returns : tie.Need-returns
+pub returns : goal.returns
 unfolding start_of
-returns c h = ap (λ (m : Made). let r : Reading = record { stage = Stage.SettingsNames; sampler = m.sampler; history = [] } in r) (c.before.build.ensures ∙ none)
+returns c h = ap (λ (m : Made). let r : Reading = record { stage = Stage.SettingsNames; sampler = m.sampler; history = [] } in r) (c.build-made.ensures ∙ none)
