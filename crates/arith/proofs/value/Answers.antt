@@ -1,6 +1,5 @@
 -- `arith::value` meets its contract. Assumes nothing.
 use lib.Ieee.{of_bits, div}
-use Rattle.std.proofs.Common.{rules}
 use Rattle.arith.proofs.value.Goals as goal
 
 pub returns-in-Refused : goal.returns-in-Refused

@@ -1,5 +1,5 @@
 -- `arith::word` meets its contract. Assumes nothing.
-use Rattle.std.proofs.Common.{sym, ap, ◌∙◌, rules}
+use Rattle.std.proofs.Common.{sym, ap, ◌∙◌}
 use Rattle.arith.specs.Outcome.{word_of}
 use Rattle.arith.proofs.word.Goals as goal
 

@@ -1,5 +1,5 @@
 -- `arith::choice::least` meets its contract: before each turn the best is the least of the values passed. Assumes nothing.
-use Rattle.std.proofs.Common.{◌≡◌, ◌-◌, ◌≤◌, length, refl, add-one, arith, rules}
+use Rattle.std.proofs.Common.{◌≡◌, length, refl, add-one, arith, rules}
 use lib.Ieee.{div, of_bits}
 use Rattle.arith.specs.Choice.{least_of_first}
 use Rattle.arith.proofs.choice.least.Goals as goal

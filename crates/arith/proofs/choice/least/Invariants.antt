@@ -1,5 +1,4 @@
-use Rattle.std.proofs.Common.{◌≡◌, ◌-◌, ◌≤◌, length, refl, add-one, arith, rules}
-use lib.Ieee.{div, of_bits}
+use Rattle.std.proofs.Common.{◌≡◌, ◌-◌, ◌≤◌, length}
 use Rattle.arith.specs.Choice.{least_of_first}
 use Rattle.arith.proofs.choice.least.Given as goal
 

@@ -1,5 +1,5 @@
 -- `arith::sums::dot` meets its contract. Assumes nothing.
-use Rattle.std.proofs.Common.{rules, eq-eqb, ne_eqb}
+use Rattle.std.proofs.Common.{eq-eqb, ne_eqb}
 use Rattle.arith.proofs.sums.dot.Goals as goal
 
 pub returns-then-xs-ys : goal.returns-then-xs-ys

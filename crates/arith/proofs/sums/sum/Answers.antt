@@ -1,6 +1,5 @@
 -- `arith::sums::sum` meets its contract: before each turn the total is the sum of the values passed. Assumes nothing.
-use Rattle.std.proofs.Common.{◌≡◌, ◌-◌, ◌≤◌, length, get_or, refl, add-one, arith, rules}
-use lib.Ieee.{nan}
+use Rattle.std.proofs.Common.{◌≡◌, length, refl, add-one, arith, rules}
 use Rattle.arith.specs.Sums.{sum_over}
 use Rattle.arith.proofs.sums.sum.Goals as goal
 

@@ -1,6 +1,5 @@
 -- `arith::sums::sum_of_products` meets its contract: before each turn the total is the sum of the products passed. Assumes nothing.
-use Rattle.std.proofs.Common.{◌≡◌, ◌-◌, ◌≤◌, length, get_or, refl, add-one, arith, rules}
-use lib.Ieee.{nan, binary64, mul}
+use Rattle.std.proofs.Common.{◌≡◌, length, refl, add-one, arith, rules}
 use Rattle.arith.specs.Sums.{sum_over}
 use Rattle.arith.proofs.sums.sum_of_products.Goals as goal
 

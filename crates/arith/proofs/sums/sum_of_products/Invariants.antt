@@ -1,4 +1,4 @@
-use Rattle.std.proofs.Common.{◌≡◌, ◌-◌, ◌≤◌, length, get_or, refl, add-one, arith, rules}
+use Rattle.std.proofs.Common.{◌≡◌, ◌-◌, ◌≤◌, length, get_or}
 use lib.Ieee.{nan, binary64, mul}
 use Rattle.arith.specs.Sums.{sum_over}
 use Rattle.arith.proofs.sums.sum_of_products.Given as goal

@@ -1,5 +1,5 @@
 -- `arith::words::float_of_int` meets its contract: what the library's function ensures. Assumes nothing.
-use Rattle.std.proofs.Common.{ap, ◌∙◌, w64, rules}
+use Rattle.std.proofs.Common.{ap, ◌∙◌, w64}
 use lib.Ieee.{binary64, of_int}
 use mir.ValLaws.{to_z-of_z}
 use Rattle.arith.proofs.words.float_of_int.Goals as goal

@@ -1,6 +1,6 @@
 use Rattle.arith.proofs.WordFacts.{above-nan, within}
 use lib.Ieee.{div, of_bits}
-use Rattle.std.proofs.Common.{sym, rules}
+use Rattle.std.proofs.Common.{sym}
 use Rattle.arith.proofs.words.float_of_word.Goals as goal
 
 pub returns-then-w-gt9218868437227405312 : goal.returns-then-w-gt9218868437227405312

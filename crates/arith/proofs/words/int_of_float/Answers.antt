@@ -1,5 +1,5 @@
 -- `arith::words::int_of_float` meets its contract: the definition by its cases, at each end and between them. Assumes nothing.
-use Rattle.std.proofs.Common.{◌≡◌, ℕ, ◌-◌, ◌*◌, ◌/◌, ◌^◌, ◌≤◌, min, true, false, not, T, ℤ, pos, neg_ℤ, sym, refl, ap, inl, inr, le_trans, le_of_eq, le_of_lt, mul-pos, one-mul, le-div_iff_mul-le, mul-one, arith, ltb→lt, T_not, pow_pos, rules}
+use Rattle.std.proofs.Common.{◌≡◌, ℕ, ◌-◌, ◌*◌, ◌/◌, ◌^◌, ◌≤◌, min, true, false, not, T, ℤ, pos, neg_ℤ, sym, refl, ap, inl, inr, le_trans, le_of_eq, le_of_lt, mul-pos, one-mul, le-div_iff_mul-le, mul-one, arith, ltb→lt, T_not, pow_pos}
 use lib.Ieee.{Float, nan, inf, fin, up, down, lt, le, neg, is_nan, of_bits, to_signed}
 use lib.Ieee.Fits.{down_pos}
 use lib.Ieee.Compare.{differs_from_itself}

@@ -1,5 +1,4 @@
 use Rattle.arith.proofs.WordFacts.{flipped-fits, flipped-is}
-use Rattle.std.proofs.Common.{rules}
 use Rattle.arith.proofs.words.int_of_word.Goals as goal
 
 pub overflow_sub-result-2 : goal.overflow_sub-result-2

@@ -1,7 +1,6 @@
 use Rattle.arith.proofs.WordFacts.{no_nan}
 use lib.Ieee.{to_bits}
 use lib.Ieee.Compare.{differs_from_itself}
-use Rattle.std.proofs.Common.{rules}
 use Rattle.arith.proofs.words.word_of_float.Goals as goal
 
 pub returns-then-x : goal.returns-then-x
