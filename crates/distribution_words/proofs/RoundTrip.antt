@@ -8,7 +8,7 @@ use mathlib.Core.List.{List, [], ◌∷◌}
 use lib.Dec.{T, leb, leb→le, eqb, eqb→eq}
 use lib.ListN.{get_or}
 use lib.IntN.{ℤ, pos, negsuc}
-use lib.Ieee.{Float, nan, inf, fin, binary64, is_nan, fits, of_bits, to_bits}
+use lib.Ieee.{Float, nan, inf, fin, binary64, is_nan, of_bits, to_bits}
 use lib.Ieee.Bits.{is_true, of_bits-to_bits, to_bits-of_bits, of_bits-fits}
 use lib.Ieee.Fits.{and_l, and_r}
 use mir.Syntax.{w64}

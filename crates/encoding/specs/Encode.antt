@@ -1,5 +1,4 @@
 -- `to_internal` of common.rs: a parameter's value in the model's space. "`to_internal` of a choice or a mismatched kind is +0; otherwise its value obeys the Taken rule, else 11." Definitions only.
-use Rattle.std.specs.Prelude.{Float}
 use Rattle.std.specs.Float.{binary64}
 use Rattle.std.specs.Float.Ieee.{of_bits, of_int}
 use Rattle.arith.specs.declared.Outcome.{Outcome}

@@ -1,7 +1,6 @@
 -- The slot of an id in a row. Definitions only.
 use Rattle.std.specs.Prelude.{ℕ, ◌&&◌, cond, List, eqb, leb, length}
 use Rattle.arith.specs.Lists.{place_of}
-use Rattle.distribution.specs.Taken as taken
 use Rattle.slots.specs.Slot.{has_id}
 use Rattle.history_rows.specs.Rows.{slot_at, width_of}
 

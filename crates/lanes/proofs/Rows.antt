@@ -1,7 +1,7 @@
 -- Rows of eight, and arrays of rows. Assumes nothing.
 use mathlib.Core.Path.{◌≡◌, ap, ◌∙◌}
 use mathlib.Core.List.{List, []}
-use Prim.Native.Nat.{ℕ, suc, ◌-◌, ◌≤◌, ◌<◌}
+use Prim.Native.Nat.{ℕ, suc, ◌≤◌, ◌<◌}
 use lib.ListN.{length, get_or, set}
 use lib.Ieee.{Float, nan, binary64, of_bits}
 use Rattle.arith.specs.Lists.{list_of, padded}

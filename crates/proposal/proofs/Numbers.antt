@@ -5,8 +5,8 @@ use mathlib.Core.Bool.{Bool, true, false, not, ◌&&◌, cond}
 use mathlib.Core.List.{List}
 use native.Mathlib.Nat.{mul-le-mul}
 use native.Mathlib.Omega.{arith}
-use lib.Dec.{eqb, leb, leb→le}
-use lib.Ieee.{Float, le}
+use lib.Dec.{eqb, leb→le}
+use lib.Ieee.{Float}
 use borrow.Author.Tests.{eq-eqb, ne_eqb}
 use Rattle.arith.proofs.Tests.{taken}
 use Rattle.distribution.proofs.Facts.{parts}

@@ -6,7 +6,7 @@ use mathlib.Core.Path.{◌≡◌, refl, sym, subst}
 use mathlib.Core.Bool.{Bool, true, false, not, ◌||◌, true≢false}
 use mathlib.Core.List.{List, [], ◌∷◌}
 use mathlib.Core.Logic.{inl, inr}
-use lib.Dec.{T, T_not, eqb, leb, leb→le}
+use lib.Dec.{T, T_not, eqb, leb→le}
 use lib.ListN.{set, get_or-replicate}
 use borrow.Author.Tests.{eqb-false}
 use Rattle.arith.specs.Lists.{every}

@@ -1,7 +1,6 @@
 -- `acquisition::expected_improvement` meets its contract, by the deviation. Assumes nothing.
 use mathlib.Core.Path.{sym}
 use Rattle.acquisition.specs.Improvement.{expected_improvement_of}
-use borrow.Author.Rules.{rules}
 use Rattle.acquisition.proofs.expected_improvement.Goals as goal
 
 pub returns-then-std : goal.returns-then-std

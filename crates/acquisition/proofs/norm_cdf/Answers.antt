@@ -4,7 +4,6 @@ use mathlib.Core.Bool.{true}
 use lib.IntN.{pos, negsuc}
 use lib.Ieee.{binary64, lt, of_bits, of_int, neg}
 use Rattle.acquisition.specs.Normal.{norm_cdf_of}
-use borrow.Author.Rules.{rules}
 use Rattle.acquisition.proofs.norm_cdf.Goals as goal
 
 pub returns-then-x : goal.returns-then-x

@@ -4,7 +4,6 @@ use lib.Ieee.{of_bits, neg}
 use Rattle.acquisition.specs.Normal.{norm_pdf_of}
 use Rattle.arith.proofs.Accepted.{never-refused}
 use Rattle.acquisition.proofs.Accepted.{density-accepted}
-use borrow.Author.Rules.{rules}
 use Rattle.acquisition.proofs.norm_pdf.Goals as goal
 
 pub returns-in-Value : goal.returns-in-Value

@@ -2,7 +2,6 @@
 use mathlib.Core.Path.{sym}
 use lib.Ieee.{of_bits, of_int}
 use Rattle.acquisition.specs.Normal.{upper_of}
-use borrow.Author.Rules.{rules}
 use Rattle.acquisition.proofs.upper.Goals as goal
 
 pub returns : goal.returns

@@ -1,5 +1,5 @@
 -- `exponential::exp` meets its contract: the tests bound x, so that k fits (`ExpRange.antt`), and the calls give what the definition says. Assumes nothing.
-use Rattle.std.proofs.Common.{◌≡◌, ℕ, ◌≤◌, true, false, not, T, pos, sym, refl, ap, ◌∙◌, subst, inl, inr, arith, le→leb, rules}
+use Rattle.std.proofs.Common.{◌≡◌, ℕ, ◌≤◌, true, false, not, T, pos, sym, refl, ap, ◌∙◌, subst, inl, inr, arith, le→leb}
 use lib.Ieee.{Float, binary64, mul, le, lt, ne, neg, of_int, of_bits, in_float, is_nan, fin, fits}
 use lib.Ieee.Bits.{is_false}
 use lib.Ieee.Compare.{differs_from_itself}

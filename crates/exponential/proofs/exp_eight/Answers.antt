@@ -1,9 +1,7 @@
 -- `exponential::exp_eight` meets its contract: before each turn the array holds the p passed. Assumes nothing.
-use Rattle.std.proofs.Common.{◌≡◌, ◌-◌, ◌≤◌, get_or, refl, add-one, arith, rules}
-use lib.Ieee.{nan, binary64, of_bits}
-use Rattle.exponential.specs.Exp.{exp_of}
-use Rattle.arith.specs.Lists.{grown, list_of, padded}
-use Rattle.arith.specs.Outcome.{value_of}
+use Rattle.std.proofs.Common.{refl, add-one, arith, rules}
+use lib.Ieee.{binary64, of_bits}
+use Rattle.arith.specs.Lists.{grown}
 use Rattle.exponential.proofs.FallingLaws.{sizes-small, fallings-exp}
 use Rattle.arith.proofs.Lists.{eight-filled, grown-set}
 use Rattle.exponential.proofs.exp_eight.Goals as goal

@@ -1,10 +1,8 @@
-use Rattle.std.proofs.Common.{◌≡◌, ◌-◌, ◌≤◌, get_or, refl, add-one, arith, rules}
-use lib.Ieee.{nan, binary64, of_bits}
+use Rattle.std.proofs.Common.{◌≡◌, ◌-◌, ◌≤◌, get_or}
+use lib.Ieee.{nan}
 use Rattle.exponential.specs.Exp.{exp_of}
-use Rattle.arith.specs.Lists.{grown, list_of, padded}
+use Rattle.arith.specs.Lists.{list_of, padded}
 use Rattle.arith.specs.Outcome.{value_of}
-use Rattle.exponential.proofs.FallingLaws.{sizes-small, fallings-exp}
-use Rattle.arith.proofs.Lists.{eight-filled, grown-set}
 use Rattle.exponential.proofs.exp_eight.Given as goal
 
 abbrev pub invariant-loop-p : goal.invariant-loop-p

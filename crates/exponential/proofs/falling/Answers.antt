@@ -1,5 +1,5 @@
 -- `exponential::falling` meets its contract. Assumes nothing.
-use Rattle.std.proofs.Common.{ℕ, ◌≤◌, T, pos, arith, le→leb, rules}
+use Rattle.std.proofs.Common.{ℕ, ◌≤◌, T, pos, arith, le→leb}
 use lib.Ieee.{binary64, in_float}
 use Rattle.exponential.specs.ExpParts.{falling_of}
 use Rattle.exponential.proofs.falling.Goals as goal

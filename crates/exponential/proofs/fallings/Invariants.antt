@@ -1,8 +1,7 @@
-use Rattle.std.proofs.Common.{◌≡◌, ◌-◌, ◌≤◌, get_or, refl, add-one, arith, rules}
-use lib.Ieee.{nan, binary64, of_bits}
+use Rattle.std.proofs.Common.{◌≡◌, ◌-◌, ◌≤◌, get_or}
+use lib.Ieee.{nan}
 use Rattle.exponential.specs.ExpParts.{falling_of}
-use Rattle.arith.specs.Lists.{grown, list_of, padded}
-use Rattle.arith.proofs.Lists.{eight-filled, grown-set}
+use Rattle.arith.specs.Lists.{list_of, padded}
 use Rattle.exponential.proofs.fallings.Given as goal
 
 abbrev pub invariant-loop-p : goal.invariant-loop-p

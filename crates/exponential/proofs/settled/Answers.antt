@@ -1,6 +1,5 @@
 -- `exponential::settled` meets its contract, by its tests. Assumes nothing.
 use Rattle.arith.proofs.Tests.{taken, untaken}
-use Rattle.std.proofs.Common.{rules}
 use Rattle.exponential.proofs.settled.Goals as goal
 
 pub returns-then-x-2 : goal.returns-then-x-2

@@ -1,8 +1,6 @@
 -- `exponential::wholes` meets its contract: before each turn the array holds the p passed. Assumes nothing.
-use Rattle.std.proofs.Common.{◌≡◌, ◌-◌, ◌≤◌, get_or, refl, add-one, arith, rules}
-use lib.Ieee.{nan}
-use Rattle.exponential.specs.ExpParts.{size_of}
-use Rattle.arith.specs.Lists.{grown, list_of, filled}
+use Rattle.std.proofs.Common.{refl, add-one, arith, rules}
+use Rattle.arith.specs.Lists.{grown}
 use Rattle.arith.proofs.Lists.{eight-filled, grown-filled-set}
 use Rattle.exponential.proofs.wholes.Goals as goal
 

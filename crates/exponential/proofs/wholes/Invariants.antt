@@ -1,8 +1,7 @@
-use Rattle.std.proofs.Common.{◌≡◌, ◌-◌, ◌≤◌, get_or, refl, add-one, arith, rules}
+use Rattle.std.proofs.Common.{◌≡◌, ◌-◌, ◌≤◌, get_or}
 use lib.Ieee.{nan}
 use Rattle.exponential.specs.ExpParts.{size_of}
-use Rattle.arith.specs.Lists.{grown, list_of, filled}
-use Rattle.arith.proofs.Lists.{eight-filled, grown-filled-set}
+use Rattle.arith.specs.Lists.{list_of, filled}
 use Rattle.exponential.proofs.wholes.Given as goal
 
 abbrev pub invariant-loop-p : goal.invariant-loop-p

@@ -1,13 +1,11 @@
 -- `factor::backward` meets its contract: before each turn the last m unknowns are known. Assumes nothing.
-use Prim.Native.Nat.{◌≤◌, suc, ◌+◌, ◌-◌}
+use Prim.Native.Nat.{suc, ◌+◌, ◌-◌}
 use mathlib.Core.Path.{◌≡◌, ap, ◌∙◌}
 use native.Mathlib.Numerals.{add-one}
 use native.Mathlib.Omega.{arith}
 use borrow.Author.Rules.{rules}
-use mathlib.Core.List.{◌++◌}
 use lib.ListN.{take}
 use Rattle.arith.specs.Lists.{padded}
-use Rattle.factor.specs.Solve.{backward_of}
 use Rattle.factor.proofs.Back.{back_none, back-all, back-next, front_length}
 use Rattle.factor.proofs.backward.Goals as goal
 

@@ -1,13 +1,9 @@
-use Prim.Native.Nat.{◌≤◌, suc, ◌+◌, ◌-◌}
-use mathlib.Core.Path.{◌≡◌, ap, ◌∙◌}
-use native.Mathlib.Numerals.{add-one}
-use native.Mathlib.Omega.{arith}
-use borrow.Author.Rules.{rules}
+use Prim.Native.Nat.{◌≤◌, ◌-◌}
+use mathlib.Core.Path.{◌≡◌}
 use mathlib.Core.List.{◌++◌}
 use lib.ListN.{take}
 use Rattle.arith.specs.Lists.{padded}
 use Rattle.factor.specs.Solve.{backward_of}
-use Rattle.factor.proofs.Back.{back_none, back-all, back-next, front_length}
 use Rattle.factor.proofs.backward.Given as goal
 
 abbrev pub invariant-loop-m : goal.invariant-loop-m

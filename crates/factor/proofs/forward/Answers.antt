@@ -1,10 +1,8 @@
 -- `factor::forward` meets its contract: before each turn z holds the first i elements. Assumes nothing.
-use Prim.Native.Nat.{◌≤◌, ◌-◌}
 use mathlib.Core.Path.{◌≡◌, refl, ◌∙◌}
 use native.Mathlib.Numerals.{add-one}
 use native.Mathlib.Omega.{arith}
-use Rattle.arith.specs.Lists.{grown, padded}
-use Rattle.factor.specs.Solve.{forward_of}
+use Rattle.arith.specs.Lists.{grown}
 use Rattle.factor.proofs.Grow.{forward-next}
 use borrow.Author.Rules.{rules}
 use Rattle.factor.proofs.forward.Goals as goal

@@ -1,11 +1,7 @@
 use Prim.Native.Nat.{◌≤◌, ◌-◌}
-use mathlib.Core.Path.{◌≡◌, refl, ◌∙◌}
-use native.Mathlib.Numerals.{add-one}
-use native.Mathlib.Omega.{arith}
-use Rattle.arith.specs.Lists.{grown, padded}
+use mathlib.Core.Path.{◌≡◌}
+use Rattle.arith.specs.Lists.{padded}
 use Rattle.factor.specs.Solve.{forward_of}
-use Rattle.factor.proofs.Grow.{forward-next}
-use borrow.Author.Rules.{rules}
 use Rattle.factor.proofs.forward.Given as goal
 
 abbrev pub invariant-loop-i : goal.invariant-loop-i

@@ -1,12 +1,9 @@
 -- `factor::next` meets its contract: before each turn s has lost the products passed. Assumes nothing.
-use Prim.Native.Nat.{◌≤◌, ◌-◌}
 use mathlib.Core.Path.{◌≡◌, refl}
 use native.Mathlib.Numerals.{add-one}
 use native.Mathlib.Omega.{arith}
 use borrow.Author.Rules.{rules}
-use lib.ListN.{get_or}
-use lib.Ieee.{nan}
-use Rattle.factor.specs.Triangle.{entry, less_of}
+use Rattle.factor.specs.Triangle.{less_of}
 use Rattle.factor.proofs.Triangle.{at_room, from_start}
 use Rattle.factor.proofs.next.Goals as goal
 

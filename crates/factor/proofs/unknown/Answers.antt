@@ -1,11 +1,11 @@
 -- `factor::unknown` meets its contract: before each turn s has lost the k - 1 products passed. Assumes nothing.
-use Prim.Native.Nat.{◌<◌, suc, ◌+◌, ◌-◌}
+use Prim.Native.Nat.{suc, ◌+◌, ◌-◌}
 use mathlib.Core.Path.{◌≡◌, refl}
 use native.Mathlib.Omega.{arith}
 use borrow.Author.Rules.{rules}
 use lib.ListN.{get_or}
 use lib.Ieee.{nan}
-use Rattle.factor.specs.Triangle.{entry, less_of}
+use Rattle.factor.specs.Triangle.{less_of}
 use Rattle.factor.proofs.Back.{back_more}
 use Rattle.factor.proofs.unknown.Goals as goal
 

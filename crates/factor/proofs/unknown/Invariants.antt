@@ -1,11 +1,8 @@
-use Prim.Native.Nat.{◌<◌, suc, ◌+◌, ◌-◌}
-use mathlib.Core.Path.{◌≡◌, refl}
-use native.Mathlib.Omega.{arith}
-use borrow.Author.Rules.{rules}
+use Prim.Native.Nat.{◌<◌, ◌+◌, ◌-◌}
+use mathlib.Core.Path.{◌≡◌}
 use lib.ListN.{get_or}
 use lib.Ieee.{nan}
 use Rattle.factor.specs.Triangle.{entry, less_of}
-use Rattle.factor.proofs.Back.{back_more}
 use Rattle.factor.proofs.unknown.Given as goal
 
 abbrev pub invariant-loop-left : goal.invariant-loop-left

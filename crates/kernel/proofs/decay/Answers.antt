@@ -2,7 +2,6 @@
 use mathlib.Core.Path.{sym}
 use lib.Ieee.{of_bits, of_int, neg}
 use Rattle.kernel.specs.Matern.{decay_of}
-use borrow.Author.Rules.{rules}
 use Rattle.kernel.proofs.decay.Goals as goal
 
 pub returns-in-Value : goal.returns-in-Value

@@ -1,12 +1,9 @@
 -- `kernel::distance` meets its contract: before each turn r_sq is the sum over the columns passed. Assumes nothing.
-use Prim.Native.Nat.{◌≤◌, ◌-◌}
 use mathlib.Core.Path.{◌≡◌, refl}
 use native.Mathlib.Numerals.{add-one}
 use native.Mathlib.Omega.{arith}
-use lib.ListN.{length, get_or}
-use lib.Ieee.{nan, binary64, sub, div}
+use lib.ListN.{length}
 use Rattle.arith.specs.Sums.{sum_over}
-use Rattle.kernel.specs.Matern.{square}
 use borrow.Author.Rules.{rules}
 use Rattle.kernel.proofs.distance.Goals as goal
 

@@ -1,12 +1,9 @@
 use Prim.Native.Nat.{◌≤◌, ◌-◌}
-use mathlib.Core.Path.{◌≡◌, refl}
-use native.Mathlib.Numerals.{add-one}
-use native.Mathlib.Omega.{arith}
+use mathlib.Core.Path.{◌≡◌}
 use lib.ListN.{length, get_or}
 use lib.Ieee.{nan, binary64, sub, div}
 use Rattle.arith.specs.Sums.{sum_over}
 use Rattle.kernel.specs.Matern.{square}
-use borrow.Author.Rules.{rules}
 use Rattle.kernel.proofs.distance.Given as goal
 
 abbrev pub invariant-loop-i : goal.invariant-loop-i

@@ -1,7 +1,6 @@
 -- `kernel::matern52` meets its contract, by the lengths. Assumes nothing.
 use borrow.Author.Tests.{eq-eqb, ne_eqb}
 use Rattle.kernel.specs.Matern.{matern52_of}
-use borrow.Author.Rules.{rules}
 use Rattle.kernel.proofs.matern52.Goals as goal
 
 pub returns-then-x1-x2 : goal.returns-then-x1-x2

@@ -1,6 +1,5 @@
 -- `kernel::scaled_root` meets its contract. Assumes nothing.
 use Rattle.kernel.specs.Matern.{scaled_root_of}
-use borrow.Author.Rules.{rules}
 use Rattle.kernel.proofs.scaled_root.Goals as goal
 
 pub returns : goal.returns

@@ -1,7 +1,6 @@
 -- `kernel::squared_distance` meets its contract, by the lengths. Assumes nothing.
 use borrow.Author.Tests.{eq-eqb, ne_eqb}
 use Rattle.kernel.specs.Matern.{squared_of}
-use borrow.Author.Rules.{rules}
 use Rattle.kernel.proofs.squared_distance.Goals as goal
 
 pub returns-then-x1-x2 : goal.returns-then-x1-x2

@@ -1,6 +1,5 @@
 -- `rng_util::next_word` meets its contract: by the test on the word.
 use native.Mathlib.Omega.{arith}
-use borrow.Author.Rules.{rules}
 use borrow.Author.Tests.{eq-eqb, ne_eqb}
 use Rattle.rng_util.specs.Draws.{word_draw_of}
 use Rattle.rng_util.proofs.next_word.Goals as goal

@@ -3,7 +3,6 @@ use Prim.Native.Nat.{◌/◌, ◌^◌}
 use native.Mathlib.Omega.{arith}
 use lib.Dec.{le→leb}
 use lib.Ieee.{in_float, of_bits, of_int}
-use borrow.Author.Rules.{rules}
 use borrow.Author.Tests.{eq-eqb, ne_eqb}
 use Rattle.rng_util.specs.Draws.{unit_of, unit_draw_of}
 use Rattle.rng_util.proofs.unit_float.Goals as goal

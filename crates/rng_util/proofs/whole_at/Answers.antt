@@ -7,7 +7,6 @@ use lib.IntN.{ℤ, pos, ◌+ℤ◌, ◌-ℤ◌, nat_abs}
 use mir.Syntax.{w64}
 use mir.Val.{to_z, of_z, SFits}
 use mir.ValLaws.{to_z-of_z, to_z_pos}
-use borrow.Author.Rules.{rules}
 use Rattle.rng_util.specs.Draws.{whole_of}
 use Rattle.rng_util.proofs.Whole.{difference, difference-small, whole_is, whole-fits}
 use Rattle.rng_util.proofs.whole_at.Goals as goal

@@ -1,13 +1,11 @@
 -- `rng_util::whole_number` meets its contract: by the tests on the word and on the range.
 use mathlib.Core.Path.{◌≡◌, sym, ◌∙◌}
 use mathlib.Core.Bool.{Bool}
-use mathlib.Core.Logic.{⊎_elim}
 use native.Mathlib.Omega.{arith}
 use mir.Syntax.{w64}
 use mir.Val.{to_z, of_z}
 use mir.ValLaws.{to_z-of_z}
-use borrow.Author.Rules.{rules}
-use borrow.Author.Tests.{eq-eqb, ne_eqb, not-true, not-false}
+use borrow.Author.Tests.{eq-eqb, ne_eqb}
 use Rattle.rng_util.specs.Draws.{range_ok, whole_draw_of}
 use Rattle.rng_util.proofs.whole_number.Goals as goal
 use Rattle.rng_util.proofs.whole_number.Goals.{Start, then-w-eq0-via-then-w-eq0, then-w-eq0-via-else-w-eq0+then-not-range_ok}

@@ -1,7 +1,6 @@
 -- `root::clamped` meets its contract, by its own tests. Assumes nothing.
 use Rattle.arith.proofs.Order.{le_of_lt, le-real}
 use Rattle.arith.proofs.Tests.{taken}
-use borrow.Author.Rules.{rules}
 use Rattle.root.proofs.clamped.Goals as goal
 
 pub float_to_bits-b : goal.float_to_bits-b

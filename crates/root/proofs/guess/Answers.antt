@@ -1,7 +1,6 @@
 use Prim.Native.Nat.{◌-◌, ◌/◌}
 use native.Mathlib.Omega.{arith}
 use Rattle.arith.proofs.Patterns.{no_nan}
-use borrow.Author.Rules.{rules}
 use Rattle.root.proofs.guess.Goals as goal
 
 pub float_from_bits-x : goal.float_from_bits-x

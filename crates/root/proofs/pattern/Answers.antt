@@ -1,5 +1,4 @@
 use Rattle.root.proofs.RootValue.{pattern-even, pattern-odd}
-use borrow.Author.Rules.{rules}
 use Rattle.root.proofs.pattern.Goals as goal
 
 pub returns-then-f-eq0 : goal.returns-then-f-eq0

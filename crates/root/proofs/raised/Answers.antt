@@ -1,9 +1,9 @@
 -- `root::raised` meets its contract. Where q does not reach, q * (q + 1) is below 2 ^ 106, and so q below 2 ^ 53. Assumes nothing.
 use mathlib.Core.Path.{sym, ◌∙◌}
-use Prim.Native.Nat.{ℕ, ◌+◌, ◌-◌, ◌*◌, ◌^◌, ◌≤◌, ◌<◌}
+use Prim.Native.Nat.{ℕ, ◌+◌, ◌*◌, ◌^◌, ◌≤◌, ◌<◌}
 use native.Mathlib.Nat.{mul-le-mul, lt_of_not-le}
 use native.Mathlib.Omega.{arith}
-use borrow.Author.Tests.{leb-true, leb-false, not-true, not-false}
+use borrow.Author.Tests.{leb-true, leb-false}
 use Rattle.root.proofs.raised.Goals as goal
 use Rattle.root.proofs.raised.Goals.{In-loop-q}
 

@@ -1,6 +1,5 @@
 use native.Mathlib.Omega.{arith}
 use Rattle.root.proofs.RootWhole.{part-bounds, word_lt, word-gt, word-eq}
-use borrow.Author.Rules.{rules}
 use Rattle.root.proofs.reaches.Goals as goal
 
 pub overflow_mul-t : goal.overflow_mul-t

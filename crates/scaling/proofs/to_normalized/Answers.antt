@@ -2,7 +2,6 @@
 use mathlib.Core.Path.{sym}
 use lib.Ieee.{of_bits}
 use Rattle.scaling.specs.Scaling.{to_normalized_of}
-use borrow.Author.Rules.{rules}
 use Rattle.scaling.proofs.to_normalized.Goals as goal
 
 pub returns-then-abs : goal.returns-then-abs

@@ -1,6 +1,6 @@
 -- `settings::in_range` meets its contract. Assumes nothing.
-use lib.Ieee.{binary64, of_bits, le}
-use borrow.Author.Tests.{le-leb, lt-leb, eq-eqb, ne_eqb, not-true, not-false}
+use lib.Ieee.{of_bits}
+use borrow.Author.Tests.{le-leb, lt-leb, eq-eqb, ne_eqb}
 use Rattle.settings.specs.Settings.{settings_ok}
 use Rattle.settings.proofs.in_range.Goals as goal
 

@@ -1,6 +1,5 @@
 -- `word_text::digit` meets its contract, by the test on ten.
 use native.Mathlib.Omega.{arith}
-use borrow.Author.Rules.{rules}
 use borrow.Author.Tests.{lt-ltb, le-ltb}
 use Rattle.word_text.proofs.digit.Goals as goal
 

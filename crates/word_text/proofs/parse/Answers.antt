@@ -1,9 +1,8 @@
 -- `word_text::parse` meets its contract. The loop's invariant: the bytes passed are digits, and `n` is their number.
-use Prim.Native.Nat.{◌≤◌, ◌<◌, ◌-◌, ◌^◌}
+use Prim.Native.Nat.{◌≤◌, ◌<◌, ◌^◌}
 use mathlib.Core.Path.{◌≡◌, refl}
-use mathlib.Core.Bool.{true, and-false}
+use mathlib.Core.Bool.{and-false}
 use native.Mathlib.Omega.{arith}
-use borrow.Author.Rules.{rules}
 use borrow.Author.Tests.{eq-eqb, ne_eqb}
 use lib.Dec.{eqb}
 use lib.ListN.{length, take, get_or}

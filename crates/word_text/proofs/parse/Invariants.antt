@@ -1,14 +1,8 @@
-use Prim.Native.Nat.{◌≤◌, ◌<◌, ◌-◌, ◌^◌}
-use mathlib.Core.Path.{◌≡◌, refl}
-use mathlib.Core.Bool.{true, and-false}
-use native.Mathlib.Omega.{arith}
-use borrow.Author.Rules.{rules}
-use borrow.Author.Tests.{eq-eqb, ne_eqb}
-use lib.Dec.{eqb}
-use lib.ListN.{length, take, get_or}
-use lib.Seq.{take_all}
-use Rattle.word_text.specs.Digits.{value_of, all_digits, of_digits}
-use Rattle.word_text.proofs.Digits.{not-all, all_more, of-more, of_room}
+use Prim.Native.Nat.{◌≤◌, ◌-◌}
+use mathlib.Core.Path.{◌≡◌}
+use mathlib.Core.Bool.{true}
+use lib.ListN.{length, take}
+use Rattle.word_text.specs.Digits.{all_digits, of_digits}
 use Rattle.word_text.proofs.parse.Given as goal
 
 abbrev pub invariant-loop-i : goal.invariant-loop-i

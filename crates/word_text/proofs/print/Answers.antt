@@ -1,9 +1,9 @@
 -- `word_text::print` meets its contract. The loop's invariant: the digits that are left of `rest`, and then those stored, are the digits of `w`.
-use Prim.Native.Nat.{◌≤◌, ◌-◌}
+use Prim.Native.Nat.{◌-◌}
 use mathlib.Core.Path.{◌≡◌, refl}
-use mathlib.Core.List.{◌++◌, append-nil}
+use mathlib.Core.List.{append-nil}
 use native.Mathlib.Omega.{arith}
-use lib.ListN.{length, length-set, drop}
+use lib.ListN.{length-set}
 use Rattle.word_text.specs.Digits.{last_digits, digits_of}
 use Rattle.word_text.proofs.Digits.{last_more}
 use Rattle.word_text.proofs.print.Goals as goal

@@ -1,10 +1,8 @@
 use Prim.Native.Nat.{◌≤◌, ◌-◌}
-use mathlib.Core.Path.{◌≡◌, refl}
-use mathlib.Core.List.{◌++◌, append-nil}
-use native.Mathlib.Omega.{arith}
-use lib.ListN.{length, length-set, drop}
+use mathlib.Core.Path.{◌≡◌}
+use mathlib.Core.List.{◌++◌}
+use lib.ListN.{length, drop}
 use Rattle.word_text.specs.Digits.{last_digits, digits_of}
-use Rattle.word_text.proofs.Digits.{last_more}
 use Rattle.word_text.proofs.print.Given as goal
 
 abbrev pub invariant-loop-i : goal.invariant-loop-i

@@ -1,7 +1,6 @@
 -- `word_text::value` meets its contract: each range of bytes by its law.
 use mathlib.Core.Path.{sym}
 use native.Mathlib.Omega.{arith}
-use borrow.Author.Rules.{rules}
 use Rattle.word_text.proofs.Digits.{value-numeral, value-letter, value-below, value-between, value-above}
 use Rattle.word_text.proofs.value.Goals as goal
 

@@ -3,7 +3,6 @@ use mathlib.Core.Path.{subst, sym}
 use Rattle.common.specs.Decode.{decoded_of}
 use Rattle.common.specs.DecodeParts.{Decodable}
 use Rattle.common.specs.GridParts.{OutcomeFits}
-use borrow.Author.Rules.{rules}
 use Rattle.common.proofs.decode.decoded.Goals as goal
 
 pub int_decoded-requires : goal.int_decoded-requires

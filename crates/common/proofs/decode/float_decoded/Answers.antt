@@ -1,5 +1,4 @@
 -- `common::decode::float_decoded` meets its contract. Assumes nothing.
-use borrow.Author.Rules.{rules}
 use Rattle.common.proofs.decode.float_decoded.Goals as goal
 
 pub returns-in-Value : goal.returns-in-Value

@@ -1,7 +1,6 @@
 -- `common::decode::from_internal` meets its contract: what is inside decodes with no saturation (`Domain.antt`). Assumes nothing.
 use mathlib.Core.Path.{◌≡◌, ◌∙◌, sym, ap}
 use mathlib.Core.Bool.{Bool, true, false, cond}
-use borrow.Author.Tests.{not-true, not-false}
 use lib.Dec.{T}
 use lib.Ieee.{Float}
 use Rattle.arith.proofs.Tests.{taken}
@@ -11,7 +10,6 @@ use Rattle.encoding.specs.declared.InternalBounds.{InternalBounds}
 use Rattle.encoding.specs.Bounds.{bounds_of, ends_of}
 use Rattle.common.specs.Decode.{inside, from_internal_of}
 use Rattle.common.proofs.Domain.{decodable}
-use borrow.Author.Rules.{rules}
 use Rattle.common.proofs.decode.from_internal.Goals as goal
 use Rattle.common.proofs.decode.from_internal.Goals.{After-is_inside}
 

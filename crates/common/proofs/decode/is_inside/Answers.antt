@@ -1,6 +1,5 @@
 -- `common::decode::is_inside` meets its contract. Assumes nothing.
 use lib.Ieee.{of_bits, of_int}
-use borrow.Author.Rules.{rules}
 use Rattle.common.proofs.decode.is_inside.Goals as goal
 
 pub returns-then-lo-x : goal.returns-then-lo-x

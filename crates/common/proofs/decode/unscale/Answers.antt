@@ -1,6 +1,5 @@
 -- `common::decode::unscale` meets its contract. Assumes nothing.
 use mathlib.Core.Path.{◌∙◌}
-use borrow.Author.Rules.{rules}
 use Rattle.common.proofs.decode.unscale.Goals as goal
 
 pub returns-then-log_scale : goal.returns-then-log_scale

@@ -1,5 +1,4 @@
 -- `common::grid::clamp` meets its contract. Assumes nothing.
-use borrow.Author.Rules.{rules}
 use Rattle.common.proofs.grid.clamp.Goals as goal
 
 pub returns : goal.returns

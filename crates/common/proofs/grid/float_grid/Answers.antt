@@ -1,6 +1,5 @@
 -- `common::grid::float_grid` meets its contract. Assumes nothing.
 use Rattle.common.specs.Grid.{float_grid}
-use borrow.Author.Rules.{rules}
 use Rattle.common.proofs.grid.float_grid.Goals as goal
 
 pub returns-then-d : goal.returns-then-d

@@ -1,7 +1,6 @@
 -- `common::random::finish` meets its contract. Assumes nothing.
 use borrow.Author.Tests.{eq-eqb, ne_eqb}
 use native.Mathlib.Omega.{arith}
-use borrow.Author.Rules.{rules}
 use Rattle.common.proofs.random.finish.Goals as goal
 
 pub returns-then-number-eq0 : goal.returns-then-number-eq0

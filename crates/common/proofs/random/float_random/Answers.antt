@@ -4,7 +4,6 @@ use Prim.Native.Nat.{ℕ}
 use mathlib.Core.Bool.{Bool, true, false, cond}
 use Rattle.distribution.specs.declared.FloatDistribution.{FloatDistribution}
 use Rattle.common.specs.Random.{float_random, log_float_random, stepped_float_random, linear_float_random}
-use borrow.Author.Rules.{rules}
 use Rattle.common.proofs.random.float_random.Goals as goal
 
 -- which draw the two tests pick

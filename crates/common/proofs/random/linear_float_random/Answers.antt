@@ -3,7 +3,6 @@ use mathlib.Core.Path.{◌∙◌, ap}
 use Rattle.distribution.specs.declared.ParamValue.{ParamValue}
 use Rattle.common.specs.Random.{linear_float_random, range_of}
 use Rattle.common.proofs.Draws.{from-unit}
-use borrow.Author.Rules.{rules}
 use Rattle.common.proofs.random.linear_float_random.Goals as goal
 
 pub returns : goal.returns

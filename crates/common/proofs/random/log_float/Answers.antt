@@ -1,5 +1,4 @@
 -- `common::random::log_float` meets its contract. Assumes nothing.
-use borrow.Author.Rules.{rules}
 use Rattle.common.proofs.random.log_float.Goals as goal
 
 pub returns-then-d : goal.returns-then-d

@@ -4,7 +4,6 @@ use Rattle.distribution.specs.declared.Distribution.{Distribution}
 use Rattle.encoding.specs.Bounds.{ends_of}
 use Rattle.common.specs.Random.{log_float_random, log_float, log_range}
 use Rattle.common.proofs.Draws.{from-unit}
-use borrow.Author.Rules.{rules}
 use Rattle.common.proofs.random.log_float_random.Goals as goal
 
 pub returns : goal.returns

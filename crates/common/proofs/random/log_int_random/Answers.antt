@@ -6,7 +6,6 @@ use Rattle.common.specs.Decode.{int_of}
 use Rattle.common.specs.GridParts.{OutcomeFits}
 use Rattle.common.specs.Random.{log_int_random, log_range}
 use Rattle.common.proofs.Draws.{from-unit}
-use borrow.Author.Rules.{rules}
 use Rattle.common.proofs.random.log_int_random.Goals as goal
 
 pub int_decoded-v-requires : goal.int_decoded-v-requires

@@ -1,5 +1,4 @@
 -- `common::random::log_range` meets its contract. Assumes nothing.
-use borrow.Author.Rules.{rules}
 use Rattle.common.proofs.random.log_range.Goals as goal
 
 pub returns-in-Ends : goal.returns-in-Ends

@@ -5,7 +5,6 @@ use Rattle.distribution.specs.Shape.{shape_of}
 use Rattle.distribution.specs.declared.Distribution.{Distribution}
 use Rattle.distribution.proofs.Facts.{categorical-rules}
 use Rattle.common.specs.Random.{random_of}
-use borrow.Author.Rules.{rules}
 use Rattle.common.proofs.random.random.Goals as goal
 
 pub int_random-requires : goal.int_random-requires

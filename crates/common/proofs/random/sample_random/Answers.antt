@@ -1,9 +1,7 @@
 -- `common::random::sample_random` meets its contract. Assumes nothing.
 use mathlib.Core.Path.{◌∙◌, sym}
-use borrow.Author.Tests.{not-true, not-false}
 use Rattle.arith.proofs.Tests.{taken}
 use Rattle.common.specs.Random.{sample_random_of}
-use borrow.Author.Rules.{rules}
 use Rattle.common.proofs.random.sample_random.Goals as goal
 
 pub returns-then-not-well_formed : goal.returns-then-not-well_formed

@@ -1,5 +1,4 @@
 -- `common::random::settle` meets its contract. Assumes nothing.
-use borrow.Author.Rules.{rules}
 use Rattle.common.proofs.random.settle.Goals as goal
 
 pub returns-in-Float : goal.returns-in-Float

@@ -1,6 +1,5 @@
 -- `dimensions::bounds::bounds_are` meets its contract. Assumes nothing.
 use mathlib.Core.Path.{sym}
-use borrow.Author.Rules.{rules}
 use Rattle.dimensions.proofs.bounds.bounds_are.Goals as goal
 
 pub returns-then-same_bits : goal.returns-then-same_bits

@@ -1,7 +1,6 @@
 -- `dimensions::bounds::dimension_ok` meets its contract. Assumes nothing.
 use mathlib.Core.Path.{sym}
 use Rattle.dimensions.specs.Dimensions.{dimension_ok}
-use borrow.Author.Rules.{rules}
 use Rattle.dimensions.proofs.bounds.dimension_ok.Goals as goal
 
 pub returns : goal.returns

@@ -1,12 +1,11 @@
 -- `dimensions::bounds::dimensions_ok` meets its contract. Assumes nothing.
-use Prim.Native.Nat.{ℕ, ◌-◌, ◌≤◌}
+use Prim.Native.Nat.{ℕ}
 use mathlib.Core.Path.{◌≡◌, refl, sym, ap, ◌∙◌}
-use mathlib.Core.Bool.{true}
 use native.Mathlib.Numerals.{add-one}
 use native.Mathlib.Omega.{arith}
 use Rattle.arith.specs.Lists.{every}
 use Rattle.arith.proofs.Lists.{every-not}
-use borrow.Author.Tests.{le-leb, lt-leb, not-true, not-false}
+use borrow.Author.Tests.{le-leb, lt-leb}
 use Rattle.dimensions.specs.Dimensions.{dimension_at, dimension_ok, dimensions_ok}
 use borrow.Author.Rules.{rules}
 use Rattle.dimensions.proofs.bounds.dimensions_ok.Goals as goal

@@ -1,13 +1,8 @@
-use Prim.Native.Nat.{ℕ, ◌-◌, ◌≤◌}
-use mathlib.Core.Path.{◌≡◌, refl, sym, ap, ◌∙◌}
+use Prim.Native.Nat.{◌-◌, ◌≤◌}
+use mathlib.Core.Path.{◌≡◌}
 use mathlib.Core.Bool.{true}
-use native.Mathlib.Numerals.{add-one}
-use native.Mathlib.Omega.{arith}
 use Rattle.arith.specs.Lists.{every}
-use Rattle.arith.proofs.Lists.{every-not}
-use borrow.Author.Tests.{le-leb, lt-leb, not-true, not-false}
-use Rattle.dimensions.specs.Dimensions.{dimension_at, dimension_ok, dimensions_ok}
-use borrow.Author.Rules.{rules}
+use Rattle.dimensions.specs.Dimensions.{dimension_at, dimension_ok}
 use Rattle.dimensions.proofs.bounds.dimensions_ok.Given as goal
 
 abbrev pub invariant-loop-j : goal.invariant-loop-j

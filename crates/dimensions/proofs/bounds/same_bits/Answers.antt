@@ -1,6 +1,5 @@
 -- `dimensions::bounds::same_bits` meets its contract. Assumes nothing.
 use mathlib.Core.Path.{sym}
-use borrow.Author.Rules.{rules}
 use Rattle.dimensions.proofs.bounds.same_bits.Goals as goal
 
 pub returns : goal.returns

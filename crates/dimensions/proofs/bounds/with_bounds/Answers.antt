@@ -1,5 +1,4 @@
 -- `dimensions::bounds::with_bounds` meets its contract. Assumes nothing.
-use borrow.Author.Rules.{rules}
 use Rattle.dimensions.proofs.bounds.with_bounds.Goals as goal
 
 pub returns-in-Ends : goal.returns-in-Ends

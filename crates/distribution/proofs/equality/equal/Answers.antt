@@ -1,6 +1,5 @@
 -- `distribution::equality::equal` meets its contract, by the two kinds.
 use mathlib.Core.Path.{◌∙◌, sym, ap₂}
-use borrow.Author.Rules.{rules}
 use Rattle.distribution.specs.Equal.{equal_of}
 use Rattle.distribution.proofs.equality.equal.Goals as goal
 

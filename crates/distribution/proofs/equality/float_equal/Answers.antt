@@ -2,7 +2,6 @@
 use mathlib.Core.Path.{◌≡◌}
 use mathlib.Core.Bool.{not, ◌&&◌, ◌||◌}
 use lib.Ieee.{eq}
-use borrow.Author.Rules.{rules}
 use Rattle.distribution.specs.Equal.{float_equal}
 use Rattle.distribution.proofs.equality.float_equal.Goals as goal
 use Rattle.distribution.proofs.equality.float_equal.Goals.{After-all}

@@ -1,5 +1,4 @@
 -- `distribution::limits::float_from` meets its contract, by its tests in order.
-use borrow.Author.Rules.{rules}
 use Rattle.distribution.proofs.limits.float_from.Goals as goal
 
 pub returns-else-not-asked : goal.returns-else-not-asked

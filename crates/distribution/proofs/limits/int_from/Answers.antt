@@ -1,7 +1,6 @@
 -- `distribution::limits::int_from` meets its contract, by its tests in order: an `i64` is read back from its bits as itself.
 use mir.Syntax.{w64}
 use mir.ValLaws.{to_z-of_z}
-use borrow.Author.Rules.{rules}
 use Rattle.distribution.proofs.limits.int_from.Goals as goal
 
 pub returns-else-not-asked : goal.returns-else-not-asked

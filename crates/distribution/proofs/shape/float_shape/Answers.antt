@@ -2,7 +2,6 @@
 use mathlib.Core.Path.{◌≡◌}
 use mathlib.Core.Bool.{◌&&◌}
 use lib.Ieee.{of_bits}
-use borrow.Author.Rules.{rules}
 use Rattle.distribution.specs.Shape.{float_step, float_shape}
 use Rattle.distribution.proofs.shape.float_shape.Goals as goal
 use Rattle.distribution.proofs.shape.float_shape.Goals.{After-all}

@@ -1,6 +1,5 @@
 -- `distribution::shape::float_step` meets its contract, by its tests in order, the literals computed.
 use lib.Ieee.{of_bits, div}
-use borrow.Author.Rules.{rules}
 use Rattle.distribution.specs.Shape.{float_step}
 use Rattle.distribution.proofs.shape.float_step.Goals as goal
 

@@ -1,6 +1,5 @@
 -- `distribution::shape::well_formed` meets its contract, by the kind.
 use mathlib.Core.Path.{◌∙◌, sym, ap}
-use borrow.Author.Rules.{rules}
 use Rattle.distribution.specs.Shape.{shape_of}
 use Rattle.distribution.proofs.shape.well_formed.Goals as goal
 

@@ -3,7 +3,6 @@ use mathlib.Core.Path.{◌≡◌}
 use mathlib.Core.Bool.{not, ◌&&◌, ◌||◌}
 use lib.IntN.{negsuc}
 use lib.Ieee.{le, of_bits}
-use borrow.Author.Rules.{rules}
 use Rattle.distribution.specs.Shape.{power}
 use Rattle.distribution.specs.Taken.{float_taken}
 use Rattle.distribution.proofs.taken.float_taken.Goals as goal

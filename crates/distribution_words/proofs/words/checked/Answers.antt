@@ -1,5 +1,4 @@
 -- `distribution_words::words::checked` meets its contract, by what `well_formed` says.
-use borrow.Author.Rules.{rules}
 use Rattle.distribution_words.specs.Words.{checked_of}
 use Rattle.distribution_words.proofs.words.checked.Goals as goal
 

@@ -1,6 +1,5 @@
 -- `distribution_words::words::distribution_of` meets its contract, by the kind.
 use borrow.Author.Tests.{eq-eqb, ne_eqb}
-use borrow.Author.Rules.{rules}
 use Rattle.distribution_words.specs.Words.{read_of}
 use Rattle.distribution_words.proofs.words.distribution_of.Goals as goal
 

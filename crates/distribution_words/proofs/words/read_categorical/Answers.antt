@@ -1,5 +1,4 @@
 -- `distribution_words::words::read_categorical` meets its contract, by what its callees say.
-use borrow.Author.Rules.{rules}
 use Rattle.distribution_words.specs.Words.{categorical_read}
 use Rattle.distribution_words.proofs.words.read_categorical.Goals as goal
 

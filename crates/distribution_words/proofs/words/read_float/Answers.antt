@@ -1,5 +1,4 @@
 -- `distribution_words::words::read_float` meets its contract, by what its callees say.
-use borrow.Author.Rules.{rules}
 use Rattle.distribution_words.specs.Words.{float_read}
 use Rattle.distribution_words.proofs.words.read_float.Goals as goal
 

@@ -1,8 +1,6 @@
 -- `encoding::bounds::internal_bounds` meets its contract. Assumes nothing.
 use mathlib.Core.Path.{◌∙◌, sym}
-use borrow.Author.Tests.{not-true, not-false}
 use Rattle.encoding.specs.Bounds.{bounds_of}
-use borrow.Author.Rules.{rules}
 use Rattle.encoding.proofs.bounds.internal_bounds.Goals as goal
 
 pub returns-then-not-well_formed : goal.returns-then-not-well_formed

@@ -1,5 +1,4 @@
 -- `encoding::bounds::pair` meets its contract. Assumes nothing.
-use borrow.Author.Rules.{rules}
 use Rattle.encoding.proofs.bounds.pair.Goals as goal
 
 pub returns-in-Value-hi : goal.returns-in-Value-hi

@@ -1,6 +1,5 @@
 -- `encoding::bounds::scale` meets its contract. Assumes nothing.
 use mathlib.Core.Path.{◌∙◌}
-use borrow.Author.Rules.{rules}
 use Rattle.encoding.proofs.bounds.scale.Goals as goal
 
 pub returns-then-log_scale : goal.returns-then-log_scale

@@ -1,7 +1,6 @@
 -- `encoding::encode::encoded` meets its contract, by the two kinds. Assumes nothing.
 use mathlib.Core.Path.{◌≡◌, ◌∙◌, sym, ap}
 use mathlib.Core.Bool.{true, false}
-use borrow.Author.Tests.{not-true, not-false}
 use lib.IntN.{ℤ}
 use lib.Ieee.{Float, binary64, of_int}
 use Rattle.arith.specs.declared.Outcome.TheVariants.{Refused}

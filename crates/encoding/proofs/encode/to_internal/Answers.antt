@@ -1,8 +1,6 @@
 -- `encoding::encode::to_internal` meets its contract. Assumes nothing.
 use mathlib.Core.Path.{◌∙◌, sym}
-use borrow.Author.Tests.{not-true, not-false}
 use Rattle.encoding.specs.Encode.{to_internal_of}
-use borrow.Author.Rules.{rules}
 use Rattle.encoding.proofs.encode.to_internal.Goals as goal
 
 pub returns-then-not-well_formed : goal.returns-then-not-well_formed

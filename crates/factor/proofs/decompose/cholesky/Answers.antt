@@ -2,8 +2,7 @@
 use mathlib.Core.Path.{◌≡◌, sym, ◌∙◌}
 use mathlib.Core.Bool.{true, false}
 use native.Mathlib.Omega.{arith}
-use borrow.Author.Rules.{rules}
-use borrow.Author.Tests.{le-leb, lt-leb, not-true, not-false}
+use borrow.Author.Tests.{le-leb, lt-leb}
 use Rattle.factor.specs.Triangle.{entry}
 use Rattle.factor.specs.Cholesky.{positive, cholesky_of}
 use Rattle.factor.proofs.decompose.cholesky.Goals as goal

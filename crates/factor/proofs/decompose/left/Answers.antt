@@ -1,5 +1,5 @@
 -- `factor::decompose::left` meets its contract: before each turn the rows before row i and the first j entries of row i are written. Assumes nothing.
-use Prim.Native.Nat.{◌≤◌, ◌+◌, ◌-◌, ℕ}
+use Prim.Native.Nat.{◌+◌, ℕ}
 use mathlib.Core.Path.{◌≡◌, sym, ap, ◌∙◌}
 use native.Mathlib.Numerals.{add-one}
 use native.Mathlib.Omega.{arith}
@@ -8,8 +8,7 @@ use lib.ListN.{get_or}
 use lib.Ieee.{nan}
 use Rattle.arith.specs.Lists.{padded}
 use Rattle.factor.specs.Triangle.{at, entry}
-use Rattle.factor.specs.Cholesky.{factor_of}
-use Rattle.factor.proofs.Triangle.{at_room, from_start, filled, filled_none}
+use Rattle.factor.proofs.Triangle.{at_room, from_start, filled_none}
 use Rattle.factor.proofs.Columns.{next-below}
 use Rattle.factor.proofs.decompose.left.Goals as goal
 

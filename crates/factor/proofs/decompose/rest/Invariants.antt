@@ -1,10 +1,6 @@
 use Prim.Native.Nat.{◌≤◌, ◌-◌}
-use mathlib.Core.Path.{◌≡◌, refl}
-use native.Mathlib.Numerals.{add-one}
-use native.Mathlib.Omega.{arith}
-use borrow.Author.Rules.{rules}
+use mathlib.Core.Path.{◌≡◌}
 use Rattle.factor.specs.Triangle.{entry, less_of}
-use Rattle.factor.proofs.Triangle.{at_room, from_start}
 use Rattle.factor.proofs.decompose.rest.Given as goal
 
 abbrev pub invariant-loop-k : goal.invariant-loop-k

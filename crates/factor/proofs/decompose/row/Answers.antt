@@ -4,7 +4,6 @@ use mathlib.Core.Bool.{true, false, true≢false}
 use Prim.Native.Nat.{ℕ}
 use native.Mathlib.Numerals.{add-one}
 use native.Mathlib.Omega.{arith}
-use borrow.Author.Rules.{rules}
 use lib.ListN.{get_or}
 use lib.Ieee.{nan, binary64, lt, of_bits}
 use Rattle.factor.specs.Triangle.{entry}

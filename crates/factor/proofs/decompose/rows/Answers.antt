@@ -1,14 +1,11 @@
 -- `factor::decompose::rows` meets its contract: before each turn the first i rows are written, and their pivots are above 0. Assumes nothing.
-use Prim.Native.Nat.{◌≤◌, ◌-◌}
 use mathlib.Core.Path.{◌≡◌, refl, sym, ◌∙◌}
 use native.Mathlib.Numerals.{add-one}
 use native.Mathlib.Omega.{arith}
 use borrow.Author.Rules.{rules}
-use borrow.Author.Tests.{not-true, not-false}
 use mathlib.Core.Bool.{true, false, true≢false}
-use Rattle.arith.specs.Lists.{padded, every}
-use Rattle.factor.specs.Triangle.{entry, rows_of}
-use Rattle.factor.specs.Cholesky.{factor_of, positive}
+use Rattle.arith.specs.Lists.{every}
+use Rattle.factor.specs.Triangle.{rows_of}
 use Rattle.arith.proofs.Lists.{every-not}
 use Rattle.factor.proofs.decompose.rows.Goals as goal
 

@@ -1,14 +1,9 @@
 use Prim.Native.Nat.{◌≤◌, ◌-◌}
-use mathlib.Core.Path.{◌≡◌, refl, sym, ◌∙◌}
-use native.Mathlib.Numerals.{add-one}
-use native.Mathlib.Omega.{arith}
-use borrow.Author.Rules.{rules}
-use borrow.Author.Tests.{not-true, not-false}
-use mathlib.Core.Bool.{true, false, true≢false}
-use Rattle.arith.specs.Lists.{padded, every}
+use mathlib.Core.Path.{◌≡◌}
+use mathlib.Core.Bool.{true}
+use Rattle.arith.specs.Lists.{padded}
 use Rattle.factor.specs.Triangle.{entry, rows_of}
 use Rattle.factor.specs.Cholesky.{factor_of, positive}
-use Rattle.arith.proofs.Lists.{every-not}
 use Rattle.factor.proofs.decompose.rows.Given as goal
 
 abbrev pub invariant-loop-i : goal.invariant-loop-i

@@ -1,12 +1,10 @@
 -- `gp_model::fitting::copied` meets its contract: before each turn the array holds the elements passed. Assumes nothing.
-use Prim.Native.Nat.{◌-◌, ◌≤◌}
-use mathlib.Core.Path.{◌≡◌, refl}
+use mathlib.Core.Path.{refl}
 use native.Mathlib.Numerals.{add-one}
 use native.Mathlib.Omega.{arith}
-use lib.ListN.{length, take}
+use lib.ListN.{take}
 use lib.Seq.{length-take-le, take_all, take-suc}
 use lib.Ieee.{nan, of_bits}
-use Rattle.arith.specs.Lists.{padded}
 use Rattle.arith.proofs.Lists.{padded-set-at}
 use borrow.Author.Rules.{rules}
 use Rattle.gp_model.proofs.fitting.copied.Goals as goal

@@ -1,13 +1,7 @@
 use Prim.Native.Nat.{◌-◌, ◌≤◌}
-use mathlib.Core.Path.{◌≡◌, refl}
-use native.Mathlib.Numerals.{add-one}
-use native.Mathlib.Omega.{arith}
+use mathlib.Core.Path.{◌≡◌}
 use lib.ListN.{length, take}
-use lib.Seq.{length-take-le, take_all, take-suc}
-use lib.Ieee.{nan, of_bits}
 use Rattle.arith.specs.Lists.{padded}
-use Rattle.arith.proofs.Lists.{padded-set-at}
-use borrow.Author.Rules.{rules}
 use Rattle.gp_model.proofs.fitting.copied.Given as goal
 
 abbrev pub invariant-loop-i : goal.invariant-loop-i

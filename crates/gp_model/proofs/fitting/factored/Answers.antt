@@ -3,7 +3,6 @@ use mathlib.Core.Path.{ap, ◌∙◌}
 use mathlib.Core.List.{List}
 use lib.Ieee.{Float}
 use Rattle.factor.specs.Cholesky.{cholesky_of}
-use borrow.Author.Rules.{rules}
 use Rattle.gp_model.proofs.fitting.factored.Goals as goal
 
 pub returns : goal.returns

@@ -1,10 +1,9 @@
 -- `gp_model::fitting::fit_gp` meets its contract, by the tests. Assumes nothing.
 use mathlib.Core.Path.{sym, ◌∙◌}
 use native.Mathlib.Omega.{arith}
-use borrow.Author.Tests.{eq-eqb, ne_eqb, not-true, not-false}
+use borrow.Author.Tests.{eq-eqb, ne_eqb}
 use Rattle.gp_model.specs.Fit.{fit_of}
 use Rattle.gp_model.proofs.Domain.{fit-counts}
-use borrow.Author.Rules.{rules}
 use Rattle.gp_model.proofs.fitting.fit_gp.Goals as goal
 
 pub returns-then-not-in_domain : goal.returns-then-not-in_domain

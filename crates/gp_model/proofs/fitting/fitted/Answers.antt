@@ -9,7 +9,6 @@ use Rattle.gp_model.specs.Fit.{fitted_of}
 use Rattle.gp_model.specs.Kernels.{kernel_matrix_of}
 use Rattle.gp_model.specs.Statistics.{lengthscale_of, lengthscales_of}
 use Rattle.gp_model.proofs.Table.{table-small}
-use borrow.Author.Rules.{rules}
 use Rattle.gp_model.proofs.fitting.fitted.Goals as goal
 use Rattle.gp_model.proofs.fitting.fitted.Goals.{After-factored-factor}
 

@@ -3,10 +3,9 @@ use mathlib.Core.Path.{sym}
 use native.Mathlib.Omega.{arith}
 use lib.ListN.{length}
 use lib.Ieee.{of_bits}
-use borrow.Author.Tests.{le-leb, lt-leb, eq-eqb, ne_eqb, not-true, not-false}
+use borrow.Author.Tests.{le-leb, lt-leb, eq-eqb, ne_eqb}
 use Rattle.gp_model.specs.Fit.{fit_domain}
 use Rattle.gp_model.proofs.Table.{table-small}
-use borrow.Author.Rules.{rules}
 use Rattle.gp_model.proofs.fitting.in_domain.Goals as goal
 
 pub returns-then-n-gt100 : goal.returns-then-n-gt100

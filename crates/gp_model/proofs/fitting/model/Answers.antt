@@ -2,7 +2,6 @@
 use lib.ListN.{length}
 use Rattle.arith.proofs.Lists.{grown-part}
 use Rattle.gp_model.specs.Statistics.{standard_of}
-use borrow.Author.Rules.{rules}
 use Rattle.gp_model.proofs.fitting.model.Goals as goal
 
 pub returns : goal.returns

@@ -3,7 +3,6 @@ use native.Mathlib.Omega.{arith}
 use borrow.Author.Tests.{eq-eqb, ne_eqb}
 use Rattle.gp_model.specs.Kernels.{covariance_of}
 use Rattle.gp_model.proofs.Table.{row_before}
-use borrow.Author.Rules.{rules}
 use Rattle.gp_model.proofs.kernels.covariance.Goals as goal
 
 pub row-requires-2 : goal.row-requires-2

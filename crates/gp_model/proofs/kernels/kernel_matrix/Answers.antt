@@ -1,12 +1,9 @@
 -- `gp_model::kernels::kernel_matrix` meets its contract: before each turn the array holds the rows passed. Assumes nothing.
-use Prim.Native.Nat.{◌-◌, ◌≤◌}
 use mathlib.Core.Path.{◌≡◌, refl}
 use native.Mathlib.Nat.{suc-mul, mul-le-mul_right}
 use native.Mathlib.Omega.{arith}
 use lib.Ieee.{of_bits}
-use Rattle.arith.specs.Lists.{padded}
 use Rattle.factor.specs.Triangle.{rows_of}
-use Rattle.gp_model.specs.Kernels.{covariance_of}
 use borrow.Author.Rules.{rules}
 use Rattle.gp_model.proofs.kernels.kernel_matrix.Goals as goal
 

@@ -1,12 +1,8 @@
 use Prim.Native.Nat.{◌-◌, ◌≤◌}
-use mathlib.Core.Path.{◌≡◌, refl}
-use native.Mathlib.Nat.{suc-mul, mul-le-mul_right}
-use native.Mathlib.Omega.{arith}
-use lib.Ieee.{of_bits}
+use mathlib.Core.Path.{◌≡◌}
 use Rattle.arith.specs.Lists.{padded}
 use Rattle.factor.specs.Triangle.{rows_of}
 use Rattle.gp_model.specs.Kernels.{covariance_of}
-use borrow.Author.Rules.{rules}
 use Rattle.gp_model.proofs.kernels.kernel_matrix.Given as goal
 
 abbrev pub invariant-loop-i : goal.invariant-loop-i

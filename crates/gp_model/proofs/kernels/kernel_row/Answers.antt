@@ -1,13 +1,12 @@
 -- `gp_model::kernels::kernel_row` meets its contract: before each turn the row holds its first j entries. Assumes nothing.
-use Prim.Native.Nat.{suc, ◌+◌, ◌-◌, ◌*◌, ◌≤◌, ◌<◌}
+use Prim.Native.Nat.{suc, ◌+◌, ◌*◌, ◌≤◌, ◌<◌}
 use mathlib.Core.Path.{◌≡◌, ap}
 use native.Mathlib.Nat.{mul-le-mul}
 use native.Mathlib.Numerals.{add-one}
 use native.Mathlib.Omega.{arith}
 use Rattle.arith.specs.Lists.{padded}
 use Rattle.factor.specs.Triangle.{at}
-use Rattle.factor.proofs.Triangle.{at_room, filled, filled_none, filled-set, filled-all}
-use Rattle.gp_model.specs.Kernels.{covariance_of}
+use Rattle.factor.proofs.Triangle.{at_room, filled_none, filled-set, filled-all}
 use borrow.Author.Rules.{rules}
 use Rattle.gp_model.proofs.kernels.kernel_row.Goals as goal
 use Rattle.gp_model.proofs.kernels.kernel_row.Goals.{After-covariance}

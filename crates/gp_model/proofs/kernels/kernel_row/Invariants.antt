@@ -1,13 +1,8 @@
-use Prim.Native.Nat.{suc, ◌+◌, ◌-◌, ◌*◌, ◌≤◌, ◌<◌}
-use mathlib.Core.Path.{◌≡◌, ap}
-use native.Mathlib.Nat.{mul-le-mul}
-use native.Mathlib.Numerals.{add-one}
-use native.Mathlib.Omega.{arith}
+use Prim.Native.Nat.{◌+◌, ◌-◌, ◌≤◌}
+use mathlib.Core.Path.{◌≡◌}
 use Rattle.arith.specs.Lists.{padded}
-use Rattle.factor.specs.Triangle.{at}
-use Rattle.factor.proofs.Triangle.{at_room, filled, filled_none, filled-set, filled-all}
+use Rattle.factor.proofs.Triangle.{filled}
 use Rattle.gp_model.specs.Kernels.{covariance_of}
-use borrow.Author.Rules.{rules}
 use Rattle.gp_model.proofs.kernels.kernel_row.Given as goal
 
 abbrev pub invariant-loop-j : goal.invariant-loop-j

@@ -1,7 +1,6 @@
 -- `gp_model::kernels::similarity` meets its contract. Assumes nothing.
 use lib.Ieee.{of_bits, of_int}
 use Rattle.gp_model.specs.Kernels.{similarity_of}
-use borrow.Author.Rules.{rules}
 use Rattle.gp_model.proofs.kernels.similarity.Goals as goal
 
 pub returns : goal.returns

@@ -1,12 +1,8 @@
 -- `gp_model::statistics::all_within` meets its contract: before each turn the test holds of the elements passed. Assumes nothing.
-use Prim.Native.Nat.{◌-◌, ◌≤◌}
 use mathlib.Core.Path.{◌≡◌, refl, sym}
-use mathlib.Core.Bool.{true}
 use native.Mathlib.Numerals.{add-one}
 use native.Mathlib.Omega.{arith}
-use lib.ListN.{length, get_or}
-use lib.Ieee.{nan, le}
-use Rattle.arith.specs.Bounds.{abs}
+use lib.ListN.{length}
 use Rattle.arith.specs.Lists.{every}
 use Rattle.arith.proofs.Lists.{every-not}
 use Rattle.gp_model.specs.Statistics.{all_within}

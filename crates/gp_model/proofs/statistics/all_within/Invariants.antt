@@ -1,15 +1,10 @@
 use Prim.Native.Nat.{◌-◌, ◌≤◌}
-use mathlib.Core.Path.{◌≡◌, refl, sym}
+use mathlib.Core.Path.{◌≡◌}
 use mathlib.Core.Bool.{true}
-use native.Mathlib.Numerals.{add-one}
-use native.Mathlib.Omega.{arith}
 use lib.ListN.{length, get_or}
 use lib.Ieee.{nan, le}
 use Rattle.arith.specs.Bounds.{abs}
 use Rattle.arith.specs.Lists.{every}
-use Rattle.arith.proofs.Lists.{every-not}
-use Rattle.gp_model.specs.Statistics.{all_within}
-use borrow.Author.Rules.{rules}
 use Rattle.gp_model.proofs.statistics.all_within.Given as goal
 
 abbrev pub invariant-loop-i : goal.invariant-loop-i

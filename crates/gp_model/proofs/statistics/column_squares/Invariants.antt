@@ -1,15 +1,9 @@
-use Prim.Native.Nat.{◌+◌, ◌*◌, ◌-◌, ◌≤◌, ◌<◌}
-use mathlib.Core.Path.{◌≡◌, refl}
-use native.Mathlib.Numerals.{add-one}
-use native.Mathlib.Omega.{arith}
-use lib.Arith.{digits_lt}
-use lib.ListN.{length}
+use Prim.Native.Nat.{◌-◌, ◌≤◌}
+use mathlib.Core.Path.{◌≡◌}
 use lib.Ieee.{binary64, sub}
 use Rattle.arith.specs.Sums.{sum_over}
 use Rattle.kernel.specs.Matern.{square}
 use Rattle.gp_model.specs.Statistics.{column_of}
-use Rattle.gp_model.proofs.Table.{table-small}
-use borrow.Author.Rules.{rules}
 use Rattle.gp_model.proofs.statistics.column_squares.Given as goal
 
 abbrev pub invariant-loop-i : goal.invariant-loop-i

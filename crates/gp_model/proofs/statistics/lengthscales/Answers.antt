@@ -1,10 +1,9 @@
 -- `gp_model::statistics::lengthscales` meets its contract: before each turn the array holds the lengthscales of the columns passed. Assumes nothing.
-use Prim.Native.Nat.{◌-◌, ◌≤◌}
 use mathlib.Core.Path.{◌≡◌, refl}
 use native.Mathlib.Numerals.{add-one}
 use native.Mathlib.Omega.{arith}
 use lib.Ieee.{of_bits}
-use Rattle.arith.specs.Lists.{grown, list_of, padded}
+use Rattle.arith.specs.Lists.{grown}
 use Rattle.arith.proofs.Lists.{grown-set}
 use Rattle.gp_model.specs.Statistics.{lengthscale_of}
 use borrow.Author.Rules.{rules}

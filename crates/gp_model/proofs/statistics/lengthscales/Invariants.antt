@@ -1,12 +1,7 @@
 use Prim.Native.Nat.{◌-◌, ◌≤◌}
-use mathlib.Core.Path.{◌≡◌, refl}
-use native.Mathlib.Numerals.{add-one}
-use native.Mathlib.Omega.{arith}
-use lib.Ieee.{of_bits}
-use Rattle.arith.specs.Lists.{grown, list_of, padded}
-use Rattle.arith.proofs.Lists.{grown-set}
+use mathlib.Core.Path.{◌≡◌}
+use Rattle.arith.specs.Lists.{list_of, padded}
 use Rattle.gp_model.specs.Statistics.{lengthscale_of}
-use borrow.Author.Rules.{rules}
 use Rattle.gp_model.proofs.statistics.lengthscales.Given as goal
 
 abbrev pub invariant-loop-j : goal.invariant-loop-j

@@ -4,7 +4,6 @@ use native.Mathlib.Omega.{arith}
 use lib.Dec.{le→leb}
 use lib.Ieee.{in_float}
 use Rattle.gp_model.specs.Statistics.{mean_of}
-use borrow.Author.Rules.{rules}
 use Rattle.gp_model.proofs.statistics.mean.Goals as goal
 
 pub int_to_float-result : goal.int_to_float-result

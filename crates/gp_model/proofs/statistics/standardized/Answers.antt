@@ -1,11 +1,10 @@
 -- `gp_model::statistics::standardized` meets its contract: before each turn the array holds the values passed, standardised. Assumes nothing.
-use Prim.Native.Nat.{◌-◌, ◌≤◌}
 use mathlib.Core.Path.{◌≡◌, refl}
 use native.Mathlib.Numerals.{add-one}
 use native.Mathlib.Omega.{arith}
 use lib.ListN.{length}
 use lib.Ieee.{of_bits}
-use Rattle.arith.specs.Lists.{grown, list_of, padded}
+use Rattle.arith.specs.Lists.{grown}
 use Rattle.arith.proofs.Lists.{grown-set}
 use Rattle.gp_model.specs.Statistics.{standard_of}
 use borrow.Author.Rules.{rules}

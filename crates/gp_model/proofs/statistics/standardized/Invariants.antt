@@ -1,13 +1,8 @@
 use Prim.Native.Nat.{◌-◌, ◌≤◌}
-use mathlib.Core.Path.{◌≡◌, refl}
-use native.Mathlib.Numerals.{add-one}
-use native.Mathlib.Omega.{arith}
+use mathlib.Core.Path.{◌≡◌}
 use lib.ListN.{length}
-use lib.Ieee.{of_bits}
-use Rattle.arith.specs.Lists.{grown, list_of, padded}
-use Rattle.arith.proofs.Lists.{grown-set}
+use Rattle.arith.specs.Lists.{list_of, padded}
 use Rattle.gp_model.specs.Statistics.{standard_of}
-use borrow.Author.Rules.{rules}
 use Rattle.gp_model.proofs.statistics.standardized.Given as goal
 
 abbrev pub invariant-loop-i : goal.invariant-loop-i

@@ -2,7 +2,6 @@
 use lib.Ieee.{of_bits, of_int}
 use borrow.Author.Tests.{lt-ltb, le-ltb}
 use Rattle.gp_model.specs.Statistics.{value_deviation_of}
-use borrow.Author.Rules.{rules}
 use Rattle.gp_model.proofs.statistics.value_deviation.Goals as goal
 
 pub returns-then-n-gt1 : goal.returns-then-n-gt1

@@ -2,7 +2,6 @@
 use mathlib.Core.Path.{◌≡◌, refl, sym, ap, ◌∙◌}
 use native.Mathlib.Omega.{arith}
 use borrow.Author.Tests.{ne_eqb}
-use borrow.Author.Rules.{rules}
 use Rattle.arith.specs.Lists.{filled}
 use Rattle.history_rows.specs.Rows.{row_at, recent_of}
 use Rattle.history_rows.proofs.Recent.{recent-few, recent-part, recent-whole}

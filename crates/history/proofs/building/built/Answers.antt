@@ -1,5 +1,4 @@
 -- `history::building::built` meets its contract. Assumes nothing.
-use borrow.Author.Rules.{rules}
 use Rattle.history.proofs.building.built.Goals as goal
 
 pub y_train-y-requires : goal.y_train-y-requires

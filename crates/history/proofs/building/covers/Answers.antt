@@ -2,7 +2,6 @@
 use mathlib.Core.Path.{sym}
 use Rattle.history.specs.Training.{covers_of}
 use Rattle.history_rows.proofs.Border.{place-with}
-use borrow.Author.Rules.{rules}
 use Rattle.history.proofs.building.covers.Goals as goal
 
 pub returns-then-m : goal.returns-then-m

@@ -1,7 +1,6 @@
 -- `history::building::entry` meets its contract. Assumes nothing.
 use mathlib.Core.Path.{sym}
 use Rattle.history.specs.Training.{entry_of}
-use borrow.Author.Rules.{rules}
 use Rattle.history.proofs.building.entry.Goals as goal
 
 pub returns : goal.returns

@@ -1,17 +1,9 @@
-use Prim.Native.Nat.{ℕ, ◌-◌, ◌*◌, ◌≤◌, ◌<◌}
-use mathlib.Core.Path.{◌≡◌, refl, ap, ◌∙◌}
-use mathlib.Core.Bool.{Bool}
-use native.Mathlib.Numerals.{add-one}
-use native.Mathlib.Omega.{arith}
-use lib.ListN.{length}
+use Prim.Native.Nat.{◌-◌, ◌≤◌}
+use mathlib.Core.Path.{◌≡◌}
 use Rattle.arith.specs.Lists.{places_of}
-use Rattle.arith.proofs.Lists.{places-length, row-end}
-use Rattle.history.specs.Places.{places_in, with_place}
-use Rattle.history_rows.specs.Rows.{width_of, row_at}
+use Rattle.history.specs.Places.{places_in}
+use Rattle.history_rows.specs.Rows.{row_at}
 use Rattle.history.specs.Training.{trains_of}
-use Rattle.history_rows.proofs.Parts.{part, lent_length}
-use Rattle.history.proofs.PlaceList.{place-more}
-use borrow.Author.Rules.{rules}
 use Rattle.history.proofs.building.kept.Given as goal
 
 abbrev pub invariant-loop-i : goal.invariant-loop-i

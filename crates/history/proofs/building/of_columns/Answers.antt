@@ -10,7 +10,6 @@ use Rattle.history_rows.specs.Rows.{row_at}
 use Rattle.history.specs.Training.{trains_of, built_of}
 use Rattle.history.proofs.KeptRows.{train-cells}
 use Rattle.history.proofs.PlaceList.{places-lent, places-fit}
-use borrow.Author.Rules.{rules}
 use Rattle.history.proofs.building.of_columns.Goals as goal
 
 pub slice_bounds-built-end : goal.slice_bounds-built-end

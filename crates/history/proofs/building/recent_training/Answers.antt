@@ -5,7 +5,6 @@ use native.Mathlib.Omega.{arith}
 use Rattle.dimensions.specs.Dimensions.{columns_of}
 use Rattle.history.proofs.FromArray.{column-below, training-same}
 use Rattle.history.proofs.PlaceList.{columns-few, places-lent, places-fit}
-use borrow.Author.Rules.{rules}
 use Rattle.history.proofs.building.recent_training.Goals as goal
 
 pub slice_bounds-of_columns-end : goal.slice_bounds-of_columns-end

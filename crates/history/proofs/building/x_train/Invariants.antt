@@ -1,17 +1,9 @@
-use native.Mathlib.Nat.{mul-le-mul}
-use Prim.Native.Nat.{ℕ, ◌-◌, ◌*◌, ◌/◌, ◌%◌, ◌≤◌, ◌<◌}
-use mathlib.Core.Path.{◌≡◌, refl, ap, ◌∙◌}
-use native.Mathlib.Numerals.{add-one}
-use native.Mathlib.Omega.{arith}
+use Prim.Native.Nat.{◌-◌, ◌*◌, ◌/◌, ◌%◌, ◌≤◌}
+use mathlib.Core.Path.{◌≡◌}
 use lib.ListN.{length, get_or}
-use lib.Ieee.{of_bits}
-use Rattle.arith.specs.Lists.{grown, list_of, padded}
-use Rattle.arith.proofs.Lists.{grown-set}
-use Rattle.history_rows.specs.Rows.{width_of, row_at}
-use Rattle.history.specs.Training.{column_of, x_of}
-use Rattle.history.proofs.KeptRows.{asked}
-use Rattle.history_rows.proofs.Parts.{part, lent_length}
-use borrow.Author.Rules.{rules}
+use Rattle.arith.specs.Lists.{list_of, padded}
+use Rattle.history_rows.specs.Rows.{row_at}
+use Rattle.history.specs.Training.{column_of}
 use Rattle.history.proofs.building.x_train.Given as goal
 
 abbrev pub invariant-loop-p : goal.invariant-loop-p

@@ -1,15 +1,9 @@
-use Rattle.history_rows.proofs.Parts.{part_at}
-use Prim.Native.Nat.{ℕ, ◌-◌, ◌*◌, ◌≤◌, ◌<◌}
-use mathlib.Core.Path.{◌≡◌, refl, sym, ap, ◌∙◌}
-use native.Mathlib.Numerals.{add-one}
-use native.Mathlib.Omega.{arith}
+use Prim.Native.Nat.{◌-◌, ◌≤◌}
+use mathlib.Core.Path.{◌≡◌}
 use lib.ListN.{length, get_or}
 use lib.Ieee.{binary64, of_bits}
-use Rattle.arith.specs.Lists.{grown, list_of, padded}
-use Rattle.arith.proofs.Lists.{grown-set, row-end}
-use Rattle.history_rows.specs.Rows.{width_of, row_at, objective_of}
-use Rattle.history.specs.Training.{y_of}
-use borrow.Author.Rules.{rules}
+use Rattle.arith.specs.Lists.{list_of, padded}
+use Rattle.history_rows.specs.Rows.{row_at, objective_of}
 use Rattle.history.proofs.building.y_train.Given as goal
 
 abbrev pub invariant-loop-c : goal.invariant-loop-c

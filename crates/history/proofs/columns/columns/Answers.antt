@@ -1,7 +1,7 @@
 -- `history::columns::columns` meets its contract. Assumes nothing.
 use lib.ListN.{length}
 use Rattle.history.proofs.PlaceList.{columns-few, columns-more}
-use Prim.Native.Nat.{ℕ, ◌-◌, ◌≤◌, ◌<◌}
+use Prim.Native.Nat.{ℕ, ◌<◌}
 use mathlib.Core.Path.{◌≡◌, refl, sym, ap, ◌∙◌}
 use native.Mathlib.Numerals.{add-one}
 use native.Mathlib.Omega.{arith}

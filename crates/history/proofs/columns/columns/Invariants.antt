@@ -1,13 +1,7 @@
-use lib.ListN.{length}
-use Rattle.history.proofs.PlaceList.{columns-few, columns-more}
-use Prim.Native.Nat.{ℕ, ◌-◌, ◌≤◌, ◌<◌}
-use mathlib.Core.Path.{◌≡◌, refl, sym, ap, ◌∙◌}
-use native.Mathlib.Numerals.{add-one}
-use native.Mathlib.Omega.{arith}
-use Rattle.arith.specs.Lists.{places_of}
+use Prim.Native.Nat.{◌-◌, ◌≤◌}
+use mathlib.Core.Path.{◌≡◌}
 use Rattle.dimensions.specs.Dimensions.{columns_of}
 use Rattle.history.specs.Places.{places_in}
-use borrow.Author.Rules.{rules}
 use Rattle.history.proofs.columns.columns.Given as goal
 
 abbrev pub invariant-loop-j : goal.invariant-loop-j

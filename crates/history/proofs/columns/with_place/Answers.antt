@@ -1,5 +1,4 @@
 -- `history::columns::with_place` meets its contract. Assumes nothing.
-use borrow.Author.Rules.{rules}
 use Rattle.history.proofs.columns.with_place.Goals as goal
 
 pub returns-then-test : goal.returns-then-test

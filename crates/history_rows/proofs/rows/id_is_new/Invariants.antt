@@ -1,14 +1,9 @@
-use Prim.Native.Nat.{ℕ, ◌+◌, ◌-◌, ◌*◌, ◌≤◌}
-use mathlib.Core.Path.{◌≡◌, refl, sym, ap, ◌∙◌}
+use Prim.Native.Nat.{◌+◌, ◌-◌, ◌*◌, ◌≤◌}
+use mathlib.Core.Path.{◌≡◌}
 use mathlib.Core.Bool.{true, not}
-use native.Mathlib.Numerals.{add-one}
-use native.Mathlib.Omega.{arith}
 use Rattle.arith.specs.Lists.{every}
-use Rattle.arith.proofs.Lists.{every-not}
-use Rattle.history_rows.proofs.Parts.{part}
 use Rattle.history_rows.specs.Rows.{slot_at}
 use Rattle.slots.specs.Slot.{same_id}
-use borrow.Author.Rules.{rules}
 use Rattle.history_rows.proofs.rows.id_is_new.Given as goal
 
 abbrev pub invariant-loop-b : goal.invariant-loop-b

@@ -1,14 +1,9 @@
 -- `history_rows::rows::ids_once` meets its contract. Assumes nothing.
-use Prim.Native.Nat.{◌-◌, ◌≤◌}
 use mathlib.Core.Path.{◌≡◌, refl, sym, ◌∙◌}
-use mathlib.Core.Bool.{true, not}
 use native.Mathlib.Numerals.{add-one}
 use native.Mathlib.Omega.{arith}
-use borrow.Author.Tests.{not-true, not-false}
 use Rattle.arith.specs.Lists.{every}
 use Rattle.arith.proofs.Lists.{every-not}
-use Rattle.history_rows.specs.Rows.{slot_at}
-use Rattle.slots.specs.Slot.{same_id}
 use Rattle.history_rows.specs.Tests.{ids_once}
 use borrow.Author.Rules.{rules}
 use Rattle.history_rows.proofs.rows.ids_once.Goals as goal

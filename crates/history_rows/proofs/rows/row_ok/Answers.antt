@@ -3,7 +3,6 @@ use borrow.Author.Tests.{le-leb, lt-leb}
 use mathlib.Core.Path.{sym}
 use lib.Ieee.{of_bits, neg}
 use Rattle.history_rows.specs.Tests.{row_ok}
-use borrow.Author.Rules.{rules}
 use Rattle.history_rows.proofs.rows.row_ok.Goals as goal
 
 pub returns-then-objective : goal.returns-then-objective

@@ -1,7 +1,6 @@
 -- `history_rows::rows::slot_place` meets its contract. Assumes nothing.
 use borrow.Author.Tests.{le-leb, lt-leb, eq-eqb, ne_eqb}
 use Rattle.history_rows.specs.Slots.{slot_place}
-use borrow.Author.Rules.{rules}
 use Rattle.history_rows.proofs.rows.slot_place.Goals as goal
 
 pub returns-then-n-gt20 : goal.returns-then-n-gt20

@@ -1,14 +1,11 @@
 -- `history_rows::rows::slot_with` meets its contract. Assumes nothing.
-use Prim.Native.Nat.{◌+◌, ◌-◌, ◌*◌, ◌≤◌}
+use Prim.Native.Nat.{◌+◌, ◌*◌}
 use mathlib.Core.Path.{◌≡◌, refl, sym, ◌∙◌}
-use mathlib.Core.Bool.{true, not}
 use native.Mathlib.Numerals.{add-one}
 use native.Mathlib.Omega.{arith}
 use Rattle.arith.specs.Lists.{every}
 use Rattle.history_rows.proofs.Parts.{part}
 use Rattle.arith.proofs.Lists.{place_is, place_none}
-use Rattle.history_rows.specs.Rows.{slot_at}
-use Rattle.slots.specs.Slot.{has_id}
 use Rattle.history_rows.specs.Slots.{slot_with}
 use borrow.Author.Rules.{rules}
 use Rattle.history_rows.proofs.rows.slot_with.Goals as goal

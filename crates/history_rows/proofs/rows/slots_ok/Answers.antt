@@ -1,14 +1,10 @@
 -- `history_rows::rows::slots_ok` meets its contract. Assumes nothing.
-use Prim.Native.Nat.{◌+◌, ◌-◌, ◌*◌, ◌≤◌}
+use Prim.Native.Nat.{◌+◌, ◌*◌}
 use mathlib.Core.Path.{◌≡◌, refl, sym}
-use mathlib.Core.Bool.{true}
 use native.Mathlib.Numerals.{add-one}
 use native.Mathlib.Omega.{arith}
-use borrow.Author.Tests.{not-true, not-false}
 use Rattle.arith.specs.Lists.{every}
 use Rattle.arith.proofs.Lists.{every-not}
-use Rattle.history_rows.specs.Rows.{slot_at}
-use Rattle.slots.specs.Slot.{slot_ok}
 use Rattle.history_rows.specs.Tests.{slots_ok}
 use Rattle.history_rows.proofs.Parts.{part}
 use borrow.Author.Rules.{rules}

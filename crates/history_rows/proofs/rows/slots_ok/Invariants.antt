@@ -1,16 +1,9 @@
-use Prim.Native.Nat.{◌+◌, ◌-◌, ◌*◌, ◌≤◌}
-use mathlib.Core.Path.{◌≡◌, refl, sym}
+use Prim.Native.Nat.{◌-◌, ◌≤◌}
+use mathlib.Core.Path.{◌≡◌}
 use mathlib.Core.Bool.{true}
-use native.Mathlib.Numerals.{add-one}
-use native.Mathlib.Omega.{arith}
-use borrow.Author.Tests.{not-true, not-false}
 use Rattle.arith.specs.Lists.{every}
-use Rattle.arith.proofs.Lists.{every-not}
 use Rattle.history_rows.specs.Rows.{slot_at}
 use Rattle.slots.specs.Slot.{slot_ok}
-use Rattle.history_rows.specs.Tests.{slots_ok}
-use Rattle.history_rows.proofs.Parts.{part}
-use borrow.Author.Rules.{rules}
 use Rattle.history_rows.proofs.rows.slots_ok.Given as goal
 
 abbrev pub invariant-loop-s : goal.invariant-loop-s

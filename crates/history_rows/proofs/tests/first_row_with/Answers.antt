@@ -1,17 +1,14 @@
 -- `history_rows::tests::first_row_with` meets its contract. Assumes nothing.
-use Prim.Native.Nat.{◌-◌, ◌*◌, ◌≤◌}
+use Prim.Native.Nat.{◌*◌}
 use mathlib.Core.Path.{◌≡◌, refl, sym, ◌∙◌}
-use mathlib.Core.Bool.{true, not}
 use native.Mathlib.Numerals.{add-one}
 use native.Mathlib.Omega.{arith}
 use borrow.Author.Tests.{lt-ltb, le-ltb}
-use lib.Dec.{ltb}
 use Rattle.arith.specs.Lists.{every}
 use Rattle.arith.proofs.Lists.{place_is, place_none, row-end}
 use Rattle.history_rows.proofs.Parts.{part, lent_length}
 use Rattle.history_rows.specs.First.{first_row_with}
-use Rattle.history_rows.specs.Rows.{width_of, row_at}
-use Rattle.history_rows.specs.Slots.{slot_with}
+use Rattle.history_rows.specs.Rows.{width_of}
 use borrow.Author.Rules.{rules}
 use Rattle.history_rows.proofs.tests.first_row_with.Goals as goal
 

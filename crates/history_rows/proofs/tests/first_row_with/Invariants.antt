@@ -1,17 +1,10 @@
-use Prim.Native.Nat.{◌-◌, ◌*◌, ◌≤◌}
-use mathlib.Core.Path.{◌≡◌, refl, sym, ◌∙◌}
+use Prim.Native.Nat.{◌-◌, ◌≤◌}
+use mathlib.Core.Path.{◌≡◌}
 use mathlib.Core.Bool.{true, not}
-use native.Mathlib.Numerals.{add-one}
-use native.Mathlib.Omega.{arith}
-use borrow.Author.Tests.{lt-ltb, le-ltb}
 use lib.Dec.{ltb}
 use Rattle.arith.specs.Lists.{every}
-use Rattle.arith.proofs.Lists.{place_is, place_none, row-end}
-use Rattle.history_rows.proofs.Parts.{part, lent_length}
-use Rattle.history_rows.specs.First.{first_row_with}
-use Rattle.history_rows.specs.Rows.{width_of, row_at}
+use Rattle.history_rows.specs.Rows.{row_at}
 use Rattle.history_rows.specs.Slots.{slot_with}
-use borrow.Author.Rules.{rules}
 use Rattle.history_rows.proofs.tests.first_row_with.Given as goal
 
 abbrev pub invariant-loop-i : goal.invariant-loop-i

@@ -1,6 +1,5 @@
 -- `history_rows::tests::like_first` meets its contract. Assumes nothing.
 use lib.ListN.{get_or}
-use borrow.Author.Tests.{not-false}
 use Rattle.arith.proofs.Lists.{row-end}
 use Rattle.history_rows.specs.Rows.{width_of, row_at}
 use Rattle.history_rows.specs.Slots.{slot_with}

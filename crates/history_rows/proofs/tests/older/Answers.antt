@@ -5,7 +5,6 @@ use native.Mathlib.Omega.{arith}
 use lib.ListN.{length}
 use borrow.Author.Tests.{le-leb, lt-leb}
 use Rattle.history_rows.specs.Rows.{width_of, row_count, recent_count}
-use borrow.Author.Rules.{rules}
 use Rattle.history_rows.proofs.tests.older.Goals as goal
 
 pub overflow_mul-result : goal.overflow_mul-result

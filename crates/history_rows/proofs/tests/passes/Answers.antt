@@ -1,5 +1,4 @@
 -- `history_rows::tests::passes` meets its contract. Assumes nothing.
-use borrow.Author.Rules.{rules}
 use borrow.Author.Tests.{eq-eqb, ne_eqb}
 use Rattle.history_rows.proofs.tests.passes.Goals as goal
 

@@ -1,8 +1,7 @@
 -- `history_rows::tests::read_with` meets its contract. Assumes nothing.
-use Prim.Native.Nat.{◌+◌, ◌-◌, ◌*◌}
+use Prim.Native.Nat.{◌+◌, ◌*◌}
 use mathlib.Core.Path.{sym}
 use Rattle.history_rows.proofs.Parts.{part}
-use borrow.Author.Rules.{rules}
 use Rattle.history_rows.proofs.tests.read_with.Goals as goal
 
 pub returns : goal.returns

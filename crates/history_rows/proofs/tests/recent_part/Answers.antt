@@ -1,7 +1,6 @@
 -- `history_rows::tests::recent_part` meets its contract. Assumes nothing.
 use borrow.Author.Tests.{le-leb, lt-leb}
 use Rattle.history_rows.specs.Recent.{recent_part}
-use borrow.Author.Rules.{rules}
 use Rattle.history_rows.proofs.tests.recent_part.Goals as goal
 
 pub returns-then-n-gt20 : goal.returns-then-n-gt20

@@ -4,8 +4,6 @@ use Rattle.arith.specs.Lists.{every}
 use Rattle.history_rows.specs.Rows.{row_at}
 use Rattle.history_rows.specs.Tests.{rows_agreeing, recent_tests}
 use Rattle.history_rows.proofs.First.{likes-are-pairs}
-use borrow.Author.Tests.{not-true, not-false}
-use borrow.Author.Rules.{rules}
 use Rattle.history_rows.proofs.tests.recent_refusal.Goals as goal
 use Rattle.history_rows.proofs.tests.recent_refusal.Goals.{After-all_pass-4}
 

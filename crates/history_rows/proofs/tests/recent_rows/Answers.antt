@@ -1,7 +1,6 @@
 -- `history_rows::tests::recent_rows` meets its contract. Assumes nothing.
 use Rattle.history_rows.proofs.Recent.{older-inside, recent-part-rows}
 use native.Mathlib.Omega.{arith}
-use borrow.Author.Rules.{rules}
 use Rattle.history_rows.proofs.tests.recent_rows.Goals as goal
 
 pub overflow_sub-result : goal.overflow_sub-result

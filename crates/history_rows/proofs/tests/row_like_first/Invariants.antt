@@ -1,15 +1,9 @@
-use Prim.Native.Nat.{ℕ, ◌+◌, ◌-◌, ◌*◌, ◌≤◌}
-use mathlib.Core.Path.{◌≡◌, refl, sym, ap, ◌∙◌}
+use Prim.Native.Nat.{◌-◌, ◌≤◌}
+use mathlib.Core.Path.{◌≡◌}
 use mathlib.Core.Bool.{true}
-use native.Mathlib.Numerals.{add-one}
-use native.Mathlib.Omega.{arith}
-use borrow.Author.Tests.{not-true, not-false}
 use Rattle.arith.specs.Lists.{every}
-use Rattle.arith.proofs.Lists.{every-not}
-use Rattle.history_rows.proofs.Parts.{part}
-use Rattle.history_rows.specs.First.{like_first, row_like_first}
+use Rattle.history_rows.specs.First.{like_first}
 use Rattle.history_rows.specs.Rows.{slot_at}
-use borrow.Author.Rules.{rules}
 use Rattle.history_rows.proofs.tests.row_like_first.Given as goal
 
 abbrev pub invariant-loop-s : goal.invariant-loop-s

@@ -11,7 +11,6 @@ use Rattle.history_view.specs.View.{reaches_of}
 use Rattle.history.proofs.FromArray.{training-number}
 use Rattle.history_view.proofs.Views.{view-is}
 use Rattle.param_mapping.proofs.Opened.{opened}
-use borrow.Author.Rules.{rules}
 use Rattle.history_view.proofs.viewing.view_of.Goals as goal
 
 pub returns-then-training-ne0 : goal.returns-then-training-ne0

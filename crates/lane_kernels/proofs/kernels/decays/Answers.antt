@@ -1,6 +1,5 @@
 -- `lane_kernels::kernels::decays` meets its contract, lane by lane. Assumes nothing.
 use Rattle.lane_kernels.proofs.DecayRow.{decay-row}
-use borrow.Author.Rules.{rules}
 use Rattle.lane_kernels.proofs.kernels.decays.Goals as goal
 
 pub returns : goal.returns

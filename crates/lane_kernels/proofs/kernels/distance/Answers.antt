@@ -1,19 +1,17 @@
 -- `lane_kernels::kernels::distance` meets its contract: before each turn each lane has the sum of the j columns passed. Assumes nothing.
-use Prim.Native.Nat.{◌-◌, ◌≤◌}
 use mathlib.Core.Path.{◌≡◌, refl}
 use native.Mathlib.Numerals.{add-one}
 use native.Mathlib.Omega.{arith}
 use lib.Ieee.{of_bits}
 use Rattle.lane_kernels.specs.Kernels.{distance_term}
-use Rattle.lanes.proofs.Summed.{Summed, summed-none, summed-more}
+use Rattle.lanes.proofs.Summed.{summed-none, summed-more}
 use borrow.Author.Rules.{rules}
-use Prim.Native.Nat.{◌-◌, ◌≤◌}
 use mathlib.Core.Path.{◌≡◌, refl}
 use native.Mathlib.Numerals.{add-one}
 use native.Mathlib.Omega.{arith}
 use lib.Ieee.{of_bits}
 use Rattle.lane_kernels.specs.Kernels.{distance_term}
-use Rattle.lanes.proofs.Summed.{Summed, summed-none, summed-more}
+use Rattle.lanes.proofs.Summed.{summed-none, summed-more}
 use Rattle.lane_kernels.proofs.kernels.distance.Goals as goal
 
 pub loop-j-init : goal.loop-j-init

@@ -1,18 +1,9 @@
 use Prim.Native.Nat.{◌-◌, ◌≤◌}
-use mathlib.Core.Path.{◌≡◌, refl}
-use native.Mathlib.Numerals.{add-one}
-use native.Mathlib.Omega.{arith}
-use lib.Ieee.{of_bits}
 use Rattle.lane_kernels.specs.Kernels.{distance_term}
-use Rattle.lanes.proofs.Summed.{Summed, summed-none, summed-more}
-use borrow.Author.Rules.{rules}
+use Rattle.lanes.proofs.Summed.{Summed}
 use Prim.Native.Nat.{◌-◌, ◌≤◌}
-use mathlib.Core.Path.{◌≡◌, refl}
-use native.Mathlib.Numerals.{add-one}
-use native.Mathlib.Omega.{arith}
-use lib.Ieee.{of_bits}
 use Rattle.lane_kernels.specs.Kernels.{distance_term}
-use Rattle.lanes.proofs.Summed.{Summed, summed-none, summed-more}
+use Rattle.lanes.proofs.Summed.{Summed}
 use Rattle.lane_kernels.proofs.kernels.distance.Given as goal
 
 abbrev pub invariant-loop-j : goal.invariant-loop-j

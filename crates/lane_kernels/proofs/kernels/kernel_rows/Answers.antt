@@ -1,13 +1,10 @@
 -- `lane_kernels::kernels::kernel_rows` meets its contract: before each turn the array holds the rows passed. Assumes nothing.
-use Prim.Native.Nat.{◌-◌, ◌≤◌}
 use mathlib.Core.Path.{◌≡◌, refl}
 use native.Mathlib.Numerals.{add-one}
 use native.Mathlib.Omega.{arith}
 use lib.Ieee.{of_bits}
 use Rattle.arith.proofs.Lists.{row-end}
 use Rattle.arith.specs.Lists.{grown}
-use Rattle.lanes.specs.Rows.{rows_of}
-use Rattle.lane_kernels.specs.Kernels.{kernel_rows_of}
 use Rattle.lanes.proofs.Rows.{row-set}
 use Rattle.lane_kernels.proofs.KernelRow.{kernel-row}
 use borrow.Author.Rules.{rules}

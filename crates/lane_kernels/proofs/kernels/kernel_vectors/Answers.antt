@@ -6,7 +6,6 @@ use borrow.Author.Tests.{le-leb, lt-leb, eq-eqb, ne_eqb}
 use lib.ListN.{length}
 use lib.Ieee.{of_bits}
 use Rattle.lane_kernels.specs.Kernels.{kernel_lanes_of}
-use borrow.Author.Rules.{rules}
 use Rattle.lane_kernels.proofs.kernels.kernel_vectors.Goals as goal
 
 pub overflow_mul-n : goal.overflow_mul-n

@@ -1,14 +1,10 @@
 -- `lane_kernels::kernels::polynomials` meets its contract: before each turn the array holds the lanes passed. Assumes nothing.
-use Prim.Native.Nat.{◌-◌, ◌≤◌}
-use mathlib.Core.Path.{◌≡◌, refl}
+use mathlib.Core.Path.{refl}
 use native.Mathlib.Numerals.{add-one}
 use native.Mathlib.Omega.{arith}
-use lib.ListN.{get_or}
-use lib.Ieee.{nan, binary64, mul, of_bits, of_int}
-use Rattle.arith.specs.Lists.{grown, list_of, padded}
+use lib.Ieee.{of_bits, of_int}
+use Rattle.arith.specs.Lists.{grown}
 use Rattle.arith.proofs.Lists.{grown-set}
-use lib.IntN.{pos}
-use Rattle.kernel.specs.Matern.{polynomial_of}
 use Rattle.lanes.proofs.Rows.{eight-all}
 use borrow.Author.Rules.{rules}
 use Rattle.lane_kernels.proofs.kernels.polynomials.Goals as goal

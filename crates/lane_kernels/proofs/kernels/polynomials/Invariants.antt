@@ -1,15 +1,10 @@
 use Prim.Native.Nat.{◌-◌, ◌≤◌}
-use mathlib.Core.Path.{◌≡◌, refl}
-use native.Mathlib.Numerals.{add-one}
-use native.Mathlib.Omega.{arith}
+use mathlib.Core.Path.{◌≡◌}
 use lib.ListN.{get_or}
-use lib.Ieee.{nan, binary64, mul, of_bits, of_int}
-use Rattle.arith.specs.Lists.{grown, list_of, padded}
-use Rattle.arith.proofs.Lists.{grown-set}
+use lib.Ieee.{nan, binary64, mul, of_int}
+use Rattle.arith.specs.Lists.{list_of, padded}
 use lib.IntN.{pos}
 use Rattle.kernel.specs.Matern.{polynomial_of}
-use Rattle.lanes.proofs.Rows.{eight-all}
-use borrow.Author.Rules.{rules}
 use Rattle.lane_kernels.proofs.kernels.polynomials.Given as goal
 
 abbrev pub invariant-loop-p : goal.invariant-loop-p

@@ -2,7 +2,6 @@
 use native.Mathlib.Omega.{arith}
 use Rattle.arith.proofs.Order.{le_of_lt, le-real}
 use Rattle.arith.proofs.Patterns.{no_nan}
-use borrow.Author.Rules.{rules}
 use Rattle.lane_kernels.proofs.roots.guess.Goals as goal
 
 pub float_to_bits-y0 : goal.float_to_bits-y0

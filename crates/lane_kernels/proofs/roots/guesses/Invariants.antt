@@ -1,6 +1,5 @@
 -- `lane_kernels::roots::guesses` is safe, and ends. Assumes nothing.
 use Prim.Native.Nat.{◌-◌, ◌≤◌}
-use borrow.Author.Rules.{rules}
 use Rattle.lane_kernels.proofs.roots.guesses.Given as goal
 
 abbrev pub invariant-loop-p : goal.invariant-loop-p

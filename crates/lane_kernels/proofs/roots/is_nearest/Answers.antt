@@ -6,7 +6,6 @@ use native.Mathlib.Omega.{arith}
 use borrow.Author.Tests.{ltb-true}
 use Rattle.root.proofs.RootWhole.{part-bounds}
 use Rattle.lane_kernels.proofs.NearRoot.{near_by}
-use borrow.Author.Rules.{rules}
 use Rattle.lane_kernels.proofs.roots.is_nearest.Goals as goal
 
 pub overflow_mul-t : goal.overflow_mul-t

@@ -5,7 +5,6 @@ use Prim.Native.Nat.{ℕ, ◌+◌, ◌-◌, ◌*◌, ◌/◌, ◌%◌}
 use native.Mathlib.Omega.{arith}
 use Rattle.root.specs.RootParts.{Pattern}
 use Rattle.lane_kernels.proofs.NearRoot.{near-pattern, no_more}
-use borrow.Author.Rules.{rules}
 use Rattle.lane_kernels.proofs.roots.is_root.Goals as goal
 
 pub overflow_mul-m : goal.overflow_mul-m

@@ -8,7 +8,6 @@ use Rattle.arith.proofs.Order.{le_of_lt, le-real}
 use Rattle.arith.proofs.Patterns.{no_nan}
 use Rattle.root.proofs.RootTop.{at_high}
 use Rattle.arith.proofs.Tests.{taken}
-use borrow.Author.Rules.{rules}
 use Rattle.lane_kernels.proofs.roots.root.Goals as goal
 
 pub float_to_bits-b : goal.float_to_bits-b

@@ -1,14 +1,9 @@
 use Prim.Native.Nat.{◌-◌, ◌≤◌}
-use mathlib.Core.Path.{◌≡◌, refl}
-use native.Mathlib.Numerals.{add-one}
-use native.Mathlib.Omega.{arith}
+use mathlib.Core.Path.{◌≡◌}
 use lib.ListN.{get_or}
-use lib.Ieee.{nan, of_bits}
-use Rattle.arith.specs.Lists.{grown, list_of, padded}
-use Rattle.arith.proofs.Lists.{grown-set}
+use lib.Ieee.{nan}
+use Rattle.arith.specs.Lists.{list_of, padded}
 use Rattle.kernel.specs.Matern.{scaled_root_of}
-use Rattle.lanes.proofs.Rows.{eight-all}
-use borrow.Author.Rules.{rules}
 use Rattle.lane_kernels.proofs.roots.scaled_roots.Given as goal
 
 abbrev pub invariant-loop-p : goal.invariant-loop-p

@@ -1,10 +1,10 @@
 -- `lanes::solving::backward` meets its contract: before each turn the last m rows are known. Assumes nothing.
-use Prim.Native.Nat.{◌≤◌, ◌-◌}
+use Prim.Native.Nat.{◌-◌}
 use mathlib.Core.Path.{refl}
 use native.Mathlib.Numerals.{add-one}
 use native.Mathlib.Omega.{arith}
 use lib.Ieee.{of_bits}
-use Rattle.lanes.proofs.Backward.{Known, known-none, known_more, known-all}
+use Rattle.lanes.proofs.Backward.{known-none, known_more, known-all}
 use borrow.Author.Rules.{rules}
 use Rattle.lanes.proofs.solving.backward.Goals as goal
 

@@ -1,10 +1,5 @@
 use Prim.Native.Nat.{◌≤◌, ◌-◌}
-use mathlib.Core.Path.{refl}
-use native.Mathlib.Numerals.{add-one}
-use native.Mathlib.Omega.{arith}
-use lib.Ieee.{of_bits}
-use Rattle.lanes.proofs.Backward.{Known, known-none, known_more, known-all}
-use borrow.Author.Rules.{rules}
+use Rattle.lanes.proofs.Backward.{Known}
 use Rattle.lanes.proofs.solving.backward.Given as goal
 
 abbrev pub invariant-loop-m : goal.invariant-loop-m

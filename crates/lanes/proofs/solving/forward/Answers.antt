@@ -1,12 +1,9 @@
 -- `lanes::solving::forward` meets its contract: before each turn z holds the first i rows. Assumes nothing.
-use Prim.Native.Nat.{◌≤◌, ◌-◌}
 use mathlib.Core.Path.{◌≡◌, refl, ◌∙◌}
 use native.Mathlib.Numerals.{add-one}
 use native.Mathlib.Omega.{arith}
 use lib.Ieee.{of_bits}
 use Rattle.arith.specs.Lists.{grown}
-use Rattle.factor.specs.Solve.{forward_of}
-use Rattle.lanes.specs.Rows.{lane_of, lanes_of, rows_of}
 use Rattle.lanes.proofs.Rows.{row-set}
 use Rattle.lanes.proofs.Forward.{forward-row}
 use borrow.Author.Rules.{rules}

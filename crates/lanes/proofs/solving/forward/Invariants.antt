@@ -1,14 +1,7 @@
 use Prim.Native.Nat.{◌≤◌, ◌-◌}
-use mathlib.Core.Path.{◌≡◌, refl, ◌∙◌}
-use native.Mathlib.Numerals.{add-one}
-use native.Mathlib.Omega.{arith}
-use lib.Ieee.{of_bits}
-use Rattle.arith.specs.Lists.{grown}
+use mathlib.Core.Path.{◌≡◌}
 use Rattle.factor.specs.Solve.{forward_of}
 use Rattle.lanes.specs.Rows.{lane_of, lanes_of, rows_of}
-use Rattle.lanes.proofs.Rows.{row-set}
-use Rattle.lanes.proofs.Forward.{forward-row}
-use borrow.Author.Rules.{rules}
 use Rattle.lanes.proofs.solving.forward.Given as goal
 
 abbrev pub invariant-loop-i : goal.invariant-loop-i

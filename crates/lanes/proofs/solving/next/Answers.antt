@@ -1,5 +1,4 @@
 -- `lanes::solving::next` meets its contract: before each turn each lane has lost the k products passed. Assumes nothing.
-use Prim.Native.Nat.{◌≤◌, ◌-◌}
 use mathlib.Core.Path.{◌≡◌, refl}
 use native.Mathlib.Numerals.{add-one}
 use native.Mathlib.Omega.{arith}
@@ -8,9 +7,8 @@ use lib.ListN.{get_or}
 use Rattle.factor.specs.Triangle.{entry, less_of}
 use Rattle.factor.proofs.Triangle.{at_room}
 use Rattle.lanes.specs.Rows.{cell}
-use Rattle.lanes.proofs.Less.{Lost, lost-more, lost-over, row-start}
+use Rattle.lanes.proofs.Less.{lost-more, lost-over, row-start}
 use borrow.Author.Rules.{rules}
-use Prim.Native.Nat.{◌≤◌, ◌-◌}
 use mathlib.Core.Path.{◌≡◌, refl}
 use native.Mathlib.Numerals.{add-one}
 use native.Mathlib.Omega.{arith}
@@ -18,7 +16,7 @@ use lib.ListN.{get_or}
 use Rattle.factor.specs.Triangle.{entry, less_of}
 use Rattle.factor.proofs.Triangle.{at_room}
 use Rattle.lanes.specs.Rows.{cell}
-use Rattle.lanes.proofs.Less.{Lost, lost-more, lost-over}
+use Rattle.lanes.proofs.Less.{lost-more, lost-over}
 use borrow.Author.Rules.{rules}
 use Rattle.lanes.proofs.solving.next.Goals as goal
 

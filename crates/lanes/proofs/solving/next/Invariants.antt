@@ -1,24 +1,11 @@
 use Prim.Native.Nat.{◌≤◌, ◌-◌}
-use mathlib.Core.Path.{◌≡◌, refl}
-use native.Mathlib.Numerals.{add-one}
-use native.Mathlib.Omega.{arith}
-use mathlib.Core.List.{[]}
-use lib.ListN.{get_or}
-use Rattle.factor.specs.Triangle.{entry, less_of}
-use Rattle.factor.proofs.Triangle.{at_room}
+use Rattle.factor.specs.Triangle.{entry}
 use Rattle.lanes.specs.Rows.{cell}
-use Rattle.lanes.proofs.Less.{Lost, lost-more, lost-over, row-start}
-use borrow.Author.Rules.{rules}
+use Rattle.lanes.proofs.Less.{Lost}
 use Prim.Native.Nat.{◌≤◌, ◌-◌}
-use mathlib.Core.Path.{◌≡◌, refl}
-use native.Mathlib.Numerals.{add-one}
-use native.Mathlib.Omega.{arith}
-use lib.ListN.{get_or}
-use Rattle.factor.specs.Triangle.{entry, less_of}
-use Rattle.factor.proofs.Triangle.{at_room}
+use Rattle.factor.specs.Triangle.{entry}
 use Rattle.lanes.specs.Rows.{cell}
-use Rattle.lanes.proofs.Less.{Lost, lost-more, lost-over}
-use borrow.Author.Rules.{rules}
+use Rattle.lanes.proofs.Less.{Lost}
 use Rattle.lanes.proofs.solving.next.Given as goal
 
 abbrev pub invariant-loop-k : goal.invariant-loop-k

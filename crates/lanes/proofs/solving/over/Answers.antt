@@ -1,13 +1,11 @@
 -- `lanes::solving::over` meets its contract: before each turn the array holds the lanes passed. Assumes nothing.
-use Prim.Native.Nat.{◌-◌, ◌≤◌}
-use mathlib.Core.Path.{◌≡◌, refl}
+use mathlib.Core.Path.{refl}
 use native.Mathlib.Numerals.{add-one}
 use native.Mathlib.Omega.{arith}
-use lib.ListN.{get_or}
-use Rattle.arith.specs.Lists.{grown, list_of, padded}
+use Rattle.arith.specs.Lists.{grown}
 use Rattle.arith.proofs.Lists.{grown-set}
 use Rattle.lanes.proofs.Rows.{eight-all}
-use lib.Ieee.{nan, binary64, div, of_bits}
+use lib.Ieee.{of_bits}
 use borrow.Author.Rules.{rules}
 use Rattle.lanes.proofs.solving.over.Goals as goal
 

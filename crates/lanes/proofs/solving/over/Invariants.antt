@@ -1,13 +1,8 @@
 use Prim.Native.Nat.{◌-◌, ◌≤◌}
-use mathlib.Core.Path.{◌≡◌, refl}
-use native.Mathlib.Numerals.{add-one}
-use native.Mathlib.Omega.{arith}
+use mathlib.Core.Path.{◌≡◌}
 use lib.ListN.{get_or}
-use Rattle.arith.specs.Lists.{grown, list_of, padded}
-use Rattle.arith.proofs.Lists.{grown-set}
-use Rattle.lanes.proofs.Rows.{eight-all}
-use lib.Ieee.{nan, binary64, div, of_bits}
-use borrow.Author.Rules.{rules}
+use Rattle.arith.specs.Lists.{list_of, padded}
+use lib.Ieee.{nan, binary64, div}
 use Rattle.lanes.proofs.solving.over.Given as goal
 
 abbrev pub invariant-loop-p : goal.invariant-loop-p

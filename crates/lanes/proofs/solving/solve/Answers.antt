@@ -6,7 +6,6 @@ use lib.Ieee.{of_bits}
 use Rattle.lanes.specs.Rows.{rows_of}
 use Rattle.lanes.specs.Solving.{solve_lanes_of}
 use Rattle.lanes.proofs.Solved.{solved-lanes}
-use borrow.Author.Rules.{rules}
 use Rattle.lanes.proofs.solving.solve.Goals as goal
 
 pub returns-then-n-gt100 : goal.returns-then-n-gt100

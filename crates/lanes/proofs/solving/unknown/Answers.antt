@@ -1,5 +1,5 @@
 -- `lanes::solving::unknown` meets its contract: before each turn each lane has lost the k products passed. Assumes nothing.
-use Prim.Native.Nat.{ℕ, ◌≤◌, ◌-◌, ◌+◌}
+use Prim.Native.Nat.{ℕ, ◌+◌}
 use mathlib.Core.Path.{◌≡◌, refl, ap, ◌∙◌}
 use native.Mathlib.Numerals.{add-one}
 use native.Mathlib.Omega.{arith}
@@ -8,9 +8,9 @@ use lib.ListN.{get_or}
 use Rattle.factor.specs.Triangle.{at, entry, less_of}
 use Rattle.factor.proofs.Triangle.{at_room}
 use Rattle.lanes.specs.Rows.{cell}
-use Rattle.lanes.proofs.Less.{Lost, lost-more, lost-over, row-start, below-entry, below-room}
+use Rattle.lanes.proofs.Less.{lost-more, lost-over, row-start, below-entry, below-room}
 use borrow.Author.Rules.{rules}
-use Prim.Native.Nat.{ℕ, ◌≤◌, ◌-◌, ◌+◌}
+use Prim.Native.Nat.{ℕ, ◌+◌}
 use mathlib.Core.Path.{◌≡◌, refl}
 use native.Mathlib.Numerals.{add-one}
 use native.Mathlib.Omega.{arith}
@@ -19,7 +19,7 @@ use lib.ListN.{get_or}
 use Rattle.factor.specs.Triangle.{at, entry, less_of}
 use Rattle.factor.proofs.Triangle.{at_room}
 use Rattle.lanes.specs.Rows.{cell}
-use Rattle.lanes.proofs.Less.{Lost, lost-more, lost-over, row-start, below-entry}
+use Rattle.lanes.proofs.Less.{lost-more, lost-over, row-start, below-entry}
 use borrow.Author.Rules.{rules}
 use Rattle.lanes.proofs.solving.unknown.Goals as goal
 

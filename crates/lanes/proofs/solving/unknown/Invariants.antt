@@ -1,25 +1,13 @@
-use Prim.Native.Nat.{ℕ, ◌≤◌, ◌-◌, ◌+◌}
-use mathlib.Core.Path.{◌≡◌, refl, ap, ◌∙◌}
-use native.Mathlib.Numerals.{add-one}
-use native.Mathlib.Omega.{arith}
-use mathlib.Core.List.{[]}
-use lib.ListN.{get_or}
-use Rattle.factor.specs.Triangle.{at, entry, less_of}
-use Rattle.factor.proofs.Triangle.{at_room}
+use Prim.Native.Nat.{◌≤◌, ◌-◌, ◌+◌}
+use mathlib.Core.Path.{◌≡◌}
+use Rattle.factor.specs.Triangle.{at, entry}
 use Rattle.lanes.specs.Rows.{cell}
-use Rattle.lanes.proofs.Less.{Lost, lost-more, lost-over, row-start, below-entry, below-room}
-use borrow.Author.Rules.{rules}
-use Prim.Native.Nat.{ℕ, ◌≤◌, ◌-◌, ◌+◌}
-use mathlib.Core.Path.{◌≡◌, refl}
-use native.Mathlib.Numerals.{add-one}
-use native.Mathlib.Omega.{arith}
-use mathlib.Core.List.{[]}
-use lib.ListN.{get_or}
-use Rattle.factor.specs.Triangle.{at, entry, less_of}
-use Rattle.factor.proofs.Triangle.{at_room}
+use Rattle.lanes.proofs.Less.{Lost}
+use Prim.Native.Nat.{◌≤◌, ◌-◌, ◌+◌}
+use mathlib.Core.Path.{◌≡◌}
+use Rattle.factor.specs.Triangle.{at, entry}
 use Rattle.lanes.specs.Rows.{cell}
-use Rattle.lanes.proofs.Less.{Lost, lost-more, lost-over, row-start, below-entry}
-use borrow.Author.Rules.{rules}
+use Rattle.lanes.proofs.Less.{Lost}
 use Rattle.lanes.proofs.solving.unknown.Given as goal
 
 abbrev pub invariant-loop-k : goal.invariant-loop-k

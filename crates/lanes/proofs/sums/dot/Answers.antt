@@ -1,5 +1,4 @@
 -- `lanes::sums::dot` meets its contract: before each turn each lane has the sum of the i products passed. Assumes nothing.
-use Prim.Native.Nat.{◌-◌, ◌≤◌}
 use mathlib.Core.Path.{◌≡◌, refl}
 use native.Mathlib.Numerals.{add-one}
 use native.Mathlib.Omega.{arith}
@@ -7,7 +6,7 @@ use borrow.Author.Tests.{le-leb, lt-leb}
 use lib.Ieee.{binary64, mul, of_bits}
 use Rattle.lanes.specs.Rows.{cell}
 use Rattle.lanes.specs.Sums.{dot_lanes_of}
-use Rattle.lanes.proofs.Summed.{Summed, summed-none, summed-more}
+use Rattle.lanes.proofs.Summed.{summed-none, summed-more}
 use borrow.Author.Rules.{rules}
 use Rattle.lanes.proofs.sums.dot.Goals as goal
 

@@ -1,13 +1,7 @@
 use Prim.Native.Nat.{◌-◌, ◌≤◌}
-use mathlib.Core.Path.{◌≡◌, refl}
-use native.Mathlib.Numerals.{add-one}
-use native.Mathlib.Omega.{arith}
-use borrow.Author.Tests.{le-leb, lt-leb}
-use lib.Ieee.{binary64, mul, of_bits}
+use lib.Ieee.{binary64, mul}
 use Rattle.lanes.specs.Rows.{cell}
-use Rattle.lanes.specs.Sums.{dot_lanes_of}
-use Rattle.lanes.proofs.Summed.{Summed, summed-none, summed-more}
-use borrow.Author.Rules.{rules}
+use Rattle.lanes.proofs.Summed.{Summed}
 use Rattle.lanes.proofs.sums.dot.Given as goal
 
 abbrev pub invariant-loop-i : goal.invariant-loop-i

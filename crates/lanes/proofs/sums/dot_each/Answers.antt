@@ -1,5 +1,4 @@
 -- `lanes::sums::dot_each` meets its contract: before each turn each lane has the sum of the i products passed. Assumes nothing.
-use Prim.Native.Nat.{◌-◌, ◌≤◌}
 use mathlib.Core.Path.{◌≡◌, refl}
 use native.Mathlib.Numerals.{add-one}
 use native.Mathlib.Omega.{arith}
@@ -8,7 +7,7 @@ use lib.ListN.{length, get_or}
 use lib.Ieee.{nan, binary64, mul, of_bits}
 use Rattle.lanes.specs.Rows.{cell}
 use Rattle.lanes.specs.Sums.{dot_each_of}
-use Rattle.lanes.proofs.Summed.{Summed, summed-none, summed-more}
+use Rattle.lanes.proofs.Summed.{summed-none, summed-more}
 use borrow.Author.Rules.{rules}
 use Rattle.lanes.proofs.sums.dot_each.Goals as goal
 

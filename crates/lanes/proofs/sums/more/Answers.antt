@@ -1,11 +1,9 @@
 -- `lanes::sums::more` meets its contract: before each turn the array holds the lanes passed. Assumes nothing.
-use Prim.Native.Nat.{◌-◌, ◌≤◌}
-use mathlib.Core.Path.{◌≡◌, refl}
+use mathlib.Core.Path.{refl}
 use native.Mathlib.Numerals.{add-one}
 use native.Mathlib.Omega.{arith}
-use lib.ListN.{get_or}
-use lib.Ieee.{nan, binary64, add, mul, of_bits}
-use Rattle.arith.specs.Lists.{grown, list_of, padded}
+use lib.Ieee.{of_bits}
+use Rattle.arith.specs.Lists.{grown}
 use Rattle.arith.proofs.Lists.{grown-set}
 use Rattle.lanes.proofs.Rows.{eight-all}
 use borrow.Author.Rules.{rules}

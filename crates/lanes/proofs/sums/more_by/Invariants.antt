@@ -1,13 +1,8 @@
 use Prim.Native.Nat.{◌-◌, ◌≤◌}
-use mathlib.Core.Path.{◌≡◌, refl}
-use native.Mathlib.Numerals.{add-one}
-use native.Mathlib.Omega.{arith}
+use mathlib.Core.Path.{◌≡◌}
 use lib.ListN.{get_or}
-use lib.Ieee.{nan, binary64, add, mul, of_bits}
-use Rattle.arith.specs.Lists.{grown, list_of, padded}
-use Rattle.arith.proofs.Lists.{grown-set}
-use Rattle.lanes.proofs.Rows.{eight-all}
-use borrow.Author.Rules.{rules}
+use lib.Ieee.{nan, binary64, add, mul}
+use Rattle.arith.specs.Lists.{list_of, padded}
 use Rattle.lanes.proofs.sums.more_by.Given as goal
 
 abbrev pub invariant-loop-p : goal.invariant-loop-p

@@ -7,7 +7,6 @@ use lib.Dec.{T, le→leb}
 use lib.IntN.{pos}
 use lib.Ieee.{binary64, in_float, of_int, minus, neg, round}
 use Rattle.arith.proofs.Within.{neg-round}
-use borrow.Author.Rules.{rules}
 use Rattle.logarithm.proofs.recipe.exponent.Goals as goal
 
 few : (n : ℕ) → n < 2047 → T (in_float binary64 (pos n))

@@ -1,7 +1,6 @@
 use mathlib.Core.Path.{◌∙◌}
 use lib.Ieee.{of_int, of_bits}
 use Rattle.logarithm.specs.Ln.{halved_of}
-use borrow.Author.Rules.{rules}
 use Rattle.logarithm.proofs.recipe.halved.Goals as goal
 
 pub returns-then-m : goal.returns-then-m

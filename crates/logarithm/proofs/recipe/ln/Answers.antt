@@ -8,7 +8,6 @@ use lib.Ieee.{Float, binary64, lt, of_bits, to_bits, of_int}
 use Rattle.arith.proofs.Order.{le_of_lt, le-real}
 use Rattle.logarithm.specs.Ln.{ln_of, normal, field, digits, mantissa_of, exponent_of, halved_of}
 use Rattle.arith.specs.declared.Outcome.TheVariants.{Value, Refused}
-use borrow.Author.Rules.{rules}
 use Rattle.arith.proofs.Patterns.{no_nan}
 use Rattle.arith.proofs.Tests.{taken}
 use Rattle.logarithm.proofs.recipe.ln.Goals as goal

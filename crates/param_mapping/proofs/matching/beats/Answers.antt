@@ -2,7 +2,6 @@
 use mathlib.Core.Path.{sym, ap}
 use mathlib.Core.Bool.{Bool, ◌||◌}
 use lib.Dec.{ltb}
-use borrow.Author.Rules.{rules}
 use Rattle.param_mapping.proofs.matching.beats.Goals as goal
 
 pub returns-else-not-best : goal.returns-else-not-best

@@ -1,7 +1,5 @@
 -- `param_mapping::matching::better` meets its contract. Assumes nothing.
 use mathlib.Core.Path.{sym}
-use borrow.Author.Tests.{not-true, not-false}
-use borrow.Author.Rules.{rules}
 use Rattle.param_mapping.proofs.matching.better.Goals as goal
 
 pub returns-then-not-is_present : goal.returns-then-not-is_present

@@ -1,13 +1,9 @@
-use Prim.Native.Nat.{ℕ, ◌-◌, ◌≤◌}
-use mathlib.Core.Path.{◌≡◌, refl, sym, ap, ◌∙◌}
+use Prim.Native.Nat.{◌-◌, ◌≤◌}
+use mathlib.Core.Path.{◌≡◌}
 use mathlib.Core.Bool.{true, not}
-use native.Mathlib.Numerals.{add-one}
-use native.Mathlib.Omega.{arith}
 use Rattle.arith.specs.Lists.{every}
-use Rattle.arith.proofs.Lists.{every-not}
 use lib.ListN.{get_or}
-use Rattle.param_mapping.specs.Mapping.{none, is_mapped, consumed_of}
-use borrow.Author.Rules.{rules}
+use Rattle.param_mapping.specs.Mapping.{none, is_mapped}
 use Rattle.param_mapping.proofs.matching.consumed.Given as goal
 
 abbrev pub invariant-loop-i : goal.invariant-loop-i

@@ -6,7 +6,6 @@ use native.Mathlib.Omega.{arith}
 use borrow.Author.Tests.{eq-eqb, ne_eqb}
 use Rattle.param_mapping.proofs.Opened.{Recent, recent}
 use Rattle.history_rows.proofs.Recent.{recent-part, recent-whole}
-use borrow.Author.Rules.{rules}
 use Rattle.arith.specs.Lists.{filled}
 use Rattle.param_mapping.specs.Mapping.{none, mapped_of, mapping_of}
 use Rattle.history_rows.specs.Rows.{row_at, recent_of}

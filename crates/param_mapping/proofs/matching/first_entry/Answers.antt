@@ -1,6 +1,6 @@
 -- `param_mapping::matching::first_entry` meets its contract. Assumes nothing.
 use Rattle.param_mapping.proofs.Least.{entries-better}
-use Prim.Native.Nat.{ℕ, ◌+◌, ◌-◌, ◌*◌, ◌≤◌}
+use Prim.Native.Nat.{ℕ, ◌+◌, ◌*◌}
 use mathlib.Core.Path.{◌≡◌, refl, sym, ap, ◌∙◌}
 use native.Mathlib.Numerals.{add-one}
 use native.Mathlib.Omega.{arith}

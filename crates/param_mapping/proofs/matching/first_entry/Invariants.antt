@@ -1,11 +1,6 @@
-use Rattle.param_mapping.proofs.Least.{entries-better}
-use Prim.Native.Nat.{ℕ, ◌+◌, ◌-◌, ◌*◌, ◌≤◌}
-use mathlib.Core.Path.{◌≡◌, refl, sym, ap, ◌∙◌}
-use native.Mathlib.Numerals.{add-one}
-use native.Mathlib.Omega.{arith}
-use Rattle.history_rows.proofs.Parts.{part}
+use Prim.Native.Nat.{◌-◌, ◌≤◌}
+use mathlib.Core.Path.{◌≡◌}
 use Rattle.param_mapping.specs.Mapping.{first_entry, entries_of, matches_of}
-use borrow.Author.Rules.{rules}
 use Rattle.param_mapping.proofs.matching.first_entry.Given as goal
 
 abbrev pub invariant-loop-s : goal.invariant-loop-s

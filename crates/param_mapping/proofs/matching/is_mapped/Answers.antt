@@ -1,5 +1,4 @@
 -- `param_mapping::matching::is_mapped` meets its contract. Assumes nothing.
-use borrow.Author.Rules.{rules}
 use Rattle.param_mapping.proofs.matching.is_mapped.Goals as goal
 
 pub returns-then-m : goal.returns-then-m

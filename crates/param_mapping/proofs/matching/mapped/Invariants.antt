@@ -1,11 +1,7 @@
-use Rattle.param_mapping.proofs.MappedList.{mapped-set}
-use Prim.Native.Nat.{ℕ, ◌-◌, ◌≤◌, ◌<◌}
-use mathlib.Core.Path.{◌≡◌, refl, sym, ap, ◌∙◌}
-use native.Mathlib.Numerals.{add-one}
-use native.Mathlib.Omega.{arith}
-use Rattle.arith.specs.Lists.{grown, filled}
+use Prim.Native.Nat.{◌-◌, ◌≤◌}
+use mathlib.Core.Path.{◌≡◌}
+use Rattle.arith.specs.Lists.{filled}
 use Rattle.param_mapping.specs.Mapping.{none, mapped_of}
-use borrow.Author.Rules.{rules}
 use Rattle.param_mapping.proofs.matching.mapped.Given as goal
 
 abbrev pub invariant-loop-j : goal.invariant-loop-j

@@ -1,8 +1,6 @@
 -- `param_mapping::matching::matches` meets its contract. Assumes nothing.
 use mathlib.Core.Path.{sym}
-use borrow.Author.Tests.{not-true, not-false}
 use Rattle.param_mapping.specs.Mapping.{matches_of}
-use borrow.Author.Rules.{rules}
 use Rattle.param_mapping.proofs.matching.matches.Goals as goal
 
 pub returns-then-not-reads_equal : goal.returns-then-not-reads_equal

@@ -1,8 +1,6 @@
 -- `param_mapping::matching::number` meets its contract. Assumes nothing.
 use mathlib.Core.Path.{sym}
-use borrow.Author.Tests.{not-true, not-false}
 use Rattle.param_mapping.specs.Mapping.{number_of}
-use borrow.Author.Rules.{rules}
 use Rattle.param_mapping.proofs.matching.number.Goals as goal
 
 pub returns-then-not-dimensions_ok : goal.returns-then-not-dimensions_ok

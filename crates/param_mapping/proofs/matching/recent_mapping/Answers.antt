@@ -6,7 +6,7 @@ use Rattle.arith.specs.Lists.{filled}
 use Rattle.param_mapping.specs.Mapping.{none, mapped_of}
 use Rattle.history_rows.specs.Rows.{width_of}
 use Rattle.history_rows.proofs.Parts.{first_part, part_length}
-use Prim.Native.Nat.{ℕ, ◌-◌, ◌*◌, ◌<◌}
+use Prim.Native.Nat.{ℕ, ◌*◌, ◌<◌}
 use mathlib.Core.Path.{◌≡◌, sym, ap, ◌∙◌}
 use native.Mathlib.Omega.{arith}
 use lib.ListN.{length}

@@ -11,7 +11,6 @@ use Rattle.arith.specs.declared.Outcome.TheVariants.{Value}
 use Rattle.arith.specs.Outcome.{value_of}
 use Rattle.arith.specs.Sums.{products, dot_of}
 use Rattle.arith.proofs.Accepted.{never-refused}
-use borrow.Author.Rules.{rules}
 use Rattle.prediction.proofs.predicting.dot.Goals as goal
 
 known : (a b : List Float) (n : ℕ) → n ≤ length a → n ≤ length b → dot_of (take (n - 0) (drop 0 a)) (take (n - 0) (drop 0 b)) ≡ Value (products (take n a) (take n b))

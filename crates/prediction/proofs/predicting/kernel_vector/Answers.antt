@@ -5,10 +5,9 @@ use native.Mathlib.Numerals.{add-one}
 use native.Mathlib.Omega.{arith}
 use lib.ListN.{length}
 use lib.Ieee.{of_bits}
-use Rattle.arith.specs.Lists.{grown, padded}
+use Rattle.arith.specs.Lists.{grown}
 use Rattle.arith.proofs.Lists.{grown-set, row-end}
 use Rattle.gp_model.specs.Kernels.{row_of, similarity_of}
-use Rattle.prediction.specs.Predict.{kernel_vector_of}
 use borrow.Author.Rules.{rules}
 use Rattle.prediction.proofs.predicting.kernel_vector.Goals as goal
 use Rattle.prediction.proofs.predicting.kernel_vector.Goals.{In-loop-i}

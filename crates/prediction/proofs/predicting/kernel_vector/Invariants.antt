@@ -1,14 +1,7 @@
-use Prim.Native.Nat.{◌+◌, ◌-◌, ◌*◌, ◌≤◌}
-use mathlib.Core.Path.{◌≡◌, refl}
-use native.Mathlib.Numerals.{add-one}
-use native.Mathlib.Omega.{arith}
-use lib.ListN.{length}
-use lib.Ieee.{of_bits}
-use Rattle.arith.specs.Lists.{grown, padded}
-use Rattle.arith.proofs.Lists.{grown-set, row-end}
-use Rattle.gp_model.specs.Kernels.{row_of, similarity_of}
+use Prim.Native.Nat.{◌-◌, ◌≤◌}
+use mathlib.Core.Path.{◌≡◌}
+use Rattle.arith.specs.Lists.{padded}
 use Rattle.prediction.specs.Predict.{kernel_vector_of}
-use borrow.Author.Rules.{rules}
 use Rattle.prediction.proofs.predicting.kernel_vector.Given as goal
 
 abbrev pub invariant-loop-i : goal.invariant-loop-i

@@ -10,7 +10,6 @@ use Rattle.gp_model.specs.Kernels.{row_of, similarity_of}
 use lib.ListN.{length, take, drop}
 use lib.Ieee.{Float, of_bits, of_int}
 use Rattle.prediction.specs.Predict.{kernel_vector_of, posterior_mean_of, posterior_std_of}
-use borrow.Author.Rules.{rules}
 use Rattle.prediction.proofs.predicting.posterior.Goals as goal
 
 vector-length : (x : List Float) (n d : ℕ) (l p : List Float) → n ≤ 100 → length (padded 100 (kernel_vector_of x n d l p)) ≡ 100

@@ -7,7 +7,6 @@ use Rattle.prediction.specs.declared.Posterior.{Posterior}
 use Rattle.prediction.specs.Predict.{predict_of}
 use Rattle.prediction.proofs.Domain.{model-counts}
 use Rattle.gp_model.proofs.Table.{table-small}
-use borrow.Author.Rules.{rules}
 use Rattle.prediction.proofs.predicting.predict.Goals as goal
 
 pub posterior-r-requires : goal.posterior-r-requires

@@ -7,7 +7,6 @@ use lib.Dec.{eqb}
 use borrow.Author.Tests.{eq-eqb, ne_eqb}
 use Rattle.proposal.specs.Points.{fit_for}
 use Rattle.proposal.proofs.Draws.{fit-lent, point-is}
-use borrow.Author.Rules.{rules}
 use Rattle.proposal.proofs.points.point_for.Goals as goal
 
 pub overflow_mul-n : goal.overflow_mul-n

@@ -1,6 +1,5 @@
 -- `proposal::points::unit_point` meets its contract. Assumes nothing.
 use Rattle.proposal.proofs.Draws.{drawn-point}
-use borrow.Author.Rules.{rules}
 use Rattle.proposal.proofs.points.unit_point.Goals as goal
 
 pub returns : goal.returns

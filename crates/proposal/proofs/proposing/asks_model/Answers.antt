@@ -1,5 +1,4 @@
 -- `proposal::proposing::asks_model` meets its contract. Assumes nothing.
-use borrow.Author.Rules.{rules}
 use Rattle.proposal.proofs.proposing.asks_model.Goals as goal
 
 pub returns-then-reached : goal.returns-then-reached

@@ -1,7 +1,6 @@
 -- `proposal::proposing::at_random` meets its contract. Assumes nothing.
 use native.Mathlib.Nat.{zero-add}
 use lib.Ieee.{of_bits}
-use borrow.Author.Rules.{rules}
 use Rattle.proposal.proofs.proposing.at_random.Goals as goal
 
 pub returns : goal.returns

@@ -2,7 +2,6 @@
 use mathlib.Core.Path.{sym}
 use Rattle.proposal.specs.Proposal.{candidate_of}
 use Rattle.proposal.proofs.Numbers.{point-few}
-use borrow.Author.Rules.{rules}
 use Rattle.proposal.proofs.proposing.candidate.Goals as goal
 
 pub from_point-requires : goal.from_point-requires

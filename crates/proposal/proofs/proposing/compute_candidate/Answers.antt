@@ -1,10 +1,8 @@
 -- `proposal::proposing::compute_candidate` meets its contract. Assumes nothing.
 use mathlib.Core.Path.{sym, ap, ◌∙◌}
 use native.Mathlib.Omega.{arith}
-use borrow.Author.Tests.{not-true, not-false}
 use Rattle.history_view.specs.declared.View.{View}
 use Rattle.proposal.proofs.Numbers.{refused-is, accepted-is, out_of_range, zero_word, by-history, view-counts, view-dimensions, candidates-few}
-use borrow.Author.Rules.{rules}
 use Rattle.proposal.proofs.proposing.compute_candidate.Goals as goal
 
 pub returns-then-not-in_range : goal.returns-then-not-in_range

@@ -3,7 +3,6 @@ use Prim.Native.Nat.{◌≤◌}
 use mathlib.Core.Bool.{true}
 use native.Mathlib.Omega.{arith}
 use Rattle.proposal.proofs.Walk.{walk-few}
-use borrow.Author.Rules.{rules}
 use Rattle.proposal.proofs.proposing.from_point.Goals as goal
 
 pub overflow_add-result : goal.overflow_add-result

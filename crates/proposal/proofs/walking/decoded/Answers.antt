@@ -1,6 +1,5 @@
 -- `proposal::walking::decoded` meets its contract. Assumes nothing.
 use mathlib.Core.Path.{sym}
-use borrow.Author.Rules.{rules}
 use Rattle.proposal.proofs.walking.decoded.Goals as goal
 
 pub returns : goal.returns

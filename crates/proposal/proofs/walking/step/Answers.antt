@@ -1,7 +1,6 @@
 -- `proposal::walking::step` meets its contract. Assumes nothing.
 use mathlib.Core.Path.{sym}
 use Rattle.proposal.specs.Values.{step_of}
-use borrow.Author.Rules.{rules}
 use Rattle.proposal.proofs.walking.step.Goals as goal
 
 pub returns-then-is_decoded : goal.returns-then-is_decoded

@@ -1,14 +1,13 @@
 -- `proposal::walking::walk` meets its contract. Assumes nothing.
 use Rattle.history.proofs.PlaceList.{columns-few}
-use Prim.Native.Nat.{ℕ, suc, ◌+◌, ◌-◌, ◌≤◌, ◌<◌}
+use Prim.Native.Nat.{ℕ, suc, ◌+◌, ◌≤◌, ◌<◌}
 use mathlib.Core.Path.{◌≡◌, refl, sym, ap}
 use native.Mathlib.Numerals.{add-one}
 use native.Mathlib.Omega.{arith}
 use lib.ListN.{length, get_or}
 use lib.Ieee.{nan, of_bits}
-use Rattle.arith.specs.Lists.{filled, places_of}
+use Rattle.arith.specs.Lists.{places_of}
 use Rattle.dimensions.specs.Dimensions.{dimension_at, columns_of}
-use Rattle.dimensions.specs.Empty.{empty_stored}
 use Rattle.proposal.specs.Values.{step_of, walk_of, values_in}
 use Rattle.proposal.proofs.Walk.{step-moves, walk-few, walk-set, columns-next}
 use borrow.Author.Rules.{rules}

@@ -3,7 +3,6 @@ use mathlib.Core.Path.{refl}
 use lib.ListN.{replicate}
 use Rattle.propose_lines.specs.Lines.{answer_line}
 use Rattle.propose_lines.proofs.AnswerLine.{four-words}
-use borrow.Author.Rules.{rules}
 use Rattle.propose_lines.proofs.answers.answer_line.Goals as goal
 
 pub returns : goal.returns

@@ -1,11 +1,11 @@
 -- `propose_lines::answers::put` meets its contract. Assumes nothing.
-use Prim.Native.Nat.{◌+◌, ◌-◌, ◌≤◌}
+use Prim.Native.Nat.{◌+◌}
 use mathlib.Core.Path.{◌≡◌, sym, ap, ◌∙◌}
 use mathlib.Core.List.{[], ◌∷◌}
 use native.Mathlib.Numerals.{add-one}
 use native.Mathlib.Omega.{arith}
 use borrow.Author.Rules.{rules}
-use lib.ListN.{length, set, get_or-append}
+use lib.ListN.{set, get_or-append}
 use lib.Seq.{paste, paste-zero, paste-suc, get_or_at}
 use Rattle.word_text.specs.Digits.{digits_of}
 use Rattle.word_text.proofs.Digits.{length_last}

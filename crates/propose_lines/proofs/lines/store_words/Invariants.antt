@@ -1,16 +1,10 @@
-use Prim.Native.Nat.{ℕ, ◌+◌, ◌*◌, ◌-◌, ◌≤◌}
-use mathlib.Core.Path.{◌≡◌, refl, sym, ap, ◌∙◌}
-use mathlib.Core.Bool.{true, false, false≢true}
-use native.Mathlib.Numerals.{add-one}
-use native.Mathlib.Omega.{arith}
-use borrow.Author.Rules.{rules}
-use lib.ListN.{length, set, length-set}
-use lib.Seq.{paste, paste-zero, paste-suc}
+use Prim.Native.Nat.{◌+◌, ◌*◌, ◌-◌, ◌≤◌}
+use mathlib.Core.Path.{◌≡◌}
+use mathlib.Core.Bool.{true}
+use lib.ListN.{length}
+use lib.Seq.{paste}
 use Rattle.arith.specs.Lists.{every}
-use Rattle.arith.proofs.Lists.{every-not}
-use Rattle.propose_lines.specs.Lines.{is_word, word_of, word_at, words_in}
-use Rattle.propose_lines.proofs.Words.{words-length, words-at}
-use Rattle.propose_lines.proofs.Stored.{words-kept, words-read, leading-all, leading-first}
+use Rattle.propose_lines.specs.Lines.{is_word, word_at, words_in}
 use Rattle.propose_lines.proofs.lines.store_words.Given as goal
 
 abbrev pub invariant-loop-i : goal.invariant-loop-i

@@ -2,14 +2,12 @@
 use mathlib.Core.Path.{sym, ap, ◌∙◌}
 use mathlib.Core.Bool.{Bool, ◌&&◌}
 use native.Mathlib.Omega.{arith}
-use borrow.Author.Tests.{not-true, not-false}
 use Prim.Native.Nat.{ℕ, ◌-◌}
 use mathlib.Core.List.{List}
 use lib.ListN.{length, drop, length-drop}
 use lib.Seq.{take_all}
 use Rattle.propose_lines.specs.Names.{row_names, slots_names, same_bytes}
 use Rattle.propose_lines.proofs.Bytes.{same_start, too_short}
-use borrow.Author.Rules.{rules}
 use Rattle.propose_lines.proofs.names.is_history.Goals as goal
 
 pub returns-then-line-lt17 : goal.returns-then-line-lt17

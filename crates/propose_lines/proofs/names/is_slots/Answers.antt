@@ -1,10 +1,9 @@
 -- `propose_lines::names::is_slots` meets its contract. The loop's invariant: what is left compares as the whole, with the names of the slots that are left. Assumes nothing.
-use Prim.Native.Nat.{ℕ, ◌+◌, ◌-◌, ◌≤◌}
+use Prim.Native.Nat.{ℕ, ◌+◌, ◌-◌}
 use mathlib.Core.Path.{◌≡◌, sym, ap, ◌∙◌}
 use native.Mathlib.Omega.{arith}
 use borrow.Author.Rules.{rules}
-use borrow.Author.Tests.{not-true, not-false}
-use lib.ListN.{length, take, drop, length-drop}
+use lib.ListN.{take, drop, length-drop}
 use Rattle.propose_lines.specs.Names.{slot_names, slots_names, same_bytes}
 use Rattle.propose_lines.proofs.SlotNames.{next-short, next-differs, next-same, none_left}
 use Rattle.propose_lines.proofs.names.is_slots.Goals as goal

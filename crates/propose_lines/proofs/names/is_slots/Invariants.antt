@@ -1,11 +1,7 @@
-use Prim.Native.Nat.{ℕ, ◌+◌, ◌-◌, ◌≤◌}
-use mathlib.Core.Path.{◌≡◌, sym, ap, ◌∙◌}
-use native.Mathlib.Omega.{arith}
-use borrow.Author.Rules.{rules}
-use borrow.Author.Tests.{not-true, not-false}
-use lib.ListN.{length, take, drop, length-drop}
-use Rattle.propose_lines.specs.Names.{slot_names, slots_names, same_bytes}
-use Rattle.propose_lines.proofs.SlotNames.{next-short, next-differs, next-same, none_left}
+use Prim.Native.Nat.{◌-◌, ◌≤◌}
+use mathlib.Core.Path.{◌≡◌}
+use lib.ListN.{length, drop}
+use Rattle.propose_lines.specs.Names.{slots_names, same_bytes}
 use Rattle.propose_lines.proofs.names.is_slots.Given as goal
 
 abbrev pub invariant-loop-i : goal.invariant-loop-i

@@ -1,10 +1,9 @@
 -- `propose_lines::names::same` meets its contract. The loop's invariant: what is left compares as the whole. Assumes nothing.
-use Prim.Native.Nat.{◌≤◌, ◌-◌}
 use mathlib.Core.Path.{◌≡◌, refl, sym, ◌∙◌}
 use mathlib.Core.List.{[]}
 use native.Mathlib.Omega.{arith}
 use native.Mathlib.Numerals.{add-one}
-use lib.ListN.{length, drop, drop_of_length-le}
+use lib.ListN.{drop, drop_of_length-le}
 use Rattle.propose_lines.specs.Names.{same_bytes}
 use Rattle.propose_lines.proofs.Bytes.{differ, one_same, one-differs}
 use Rattle.propose_lines.proofs.names.same.Goals as goal

@@ -1,11 +1,7 @@
 use Prim.Native.Nat.{◌≤◌, ◌-◌}
-use mathlib.Core.Path.{◌≡◌, refl, sym, ◌∙◌}
-use mathlib.Core.List.{[]}
-use native.Mathlib.Omega.{arith}
-use native.Mathlib.Numerals.{add-one}
-use lib.ListN.{length, drop, drop_of_length-le}
+use mathlib.Core.Path.{◌≡◌}
+use lib.ListN.{length, drop}
 use Rattle.propose_lines.specs.Names.{same_bytes}
-use Rattle.propose_lines.proofs.Bytes.{differ, one_same, one-differs}
 use Rattle.propose_lines.proofs.names.same.Given as goal
 
 abbrev pub invariant-loop-i : goal.invariant-loop-i

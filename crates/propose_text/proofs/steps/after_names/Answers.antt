@@ -1,5 +1,4 @@
 -- `propose_text::steps::after_names` meets its contract. Assumes nothing.
-use borrow.Author.Rules.{rules}
 use Rattle.propose_text.proofs.steps.after_names.Goals as goal
 
 pub returns-then-ok : goal.returns-then-ok

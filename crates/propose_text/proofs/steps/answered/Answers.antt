@@ -1,6 +1,5 @@
 -- `propose_text::steps::answered` meets its contract. Assumes nothing.
 use Rattle.propose_lines.proofs.AnswerLine.{whole-line}
-use borrow.Author.Rules.{rules}
 use Rattle.propose_text.proofs.steps.answered.Goals as goal
 
 pub returns : goal.returns

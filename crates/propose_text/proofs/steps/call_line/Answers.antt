@@ -3,12 +3,10 @@ use Prim.Native.Nat.{ℕ, ◌<◌}
 use mathlib.Core.Path.{◌≡◌, sym, ◌∙◌}
 use mathlib.Core.Bool.{true}
 use native.Mathlib.Omega.{arith}
-use borrow.Author.Tests.{not-true, not-false}
 use lib.ListN.{get_or}
 use Rattle.propose_lines.specs.Lines.{is_words, words_in}
 use Rattle.text_laws.specs.Steps.{reading_of, sampled_of, call_line}
 use Rattle.propose_lines.proofs.Words.{read_at}
-use borrow.Author.Rules.{rules}
 use Rattle.propose_text.proofs.steps.call_line.Goals as goal
 use Rattle.propose_text.proofs.steps.call_line.Goals.{After-called-a, Else-not-read_words}
 

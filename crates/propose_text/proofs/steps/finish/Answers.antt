@@ -1,7 +1,6 @@
 -- `propose_text::steps::finish` meets its contract. Assumes nothing.
 use mathlib.Core.Path.{sym, ◌∙◌}
 use Rattle.text_laws.specs.Steps.{reading_of, finish_of}
-use borrow.Author.Rules.{rules}
 use Rattle.propose_text.proofs.steps.finish.Goals as goal
 
 pub returns-then-may_end : goal.returns-then-may_end

@@ -1,6 +1,5 @@
 -- `propose_text::steps::has_history_names` meets its contract. Assumes nothing.
 use borrow.Author.Tests.{le-leb, lt-leb}
-use borrow.Author.Rules.{rules}
 use Rattle.propose_text.proofs.steps.has_history_names.Goals as goal
 
 pub returns-then-settings-le20 : goal.returns-then-settings-le20

@@ -1,7 +1,6 @@
 -- `propose_text::steps::history_line` meets its contract. Assumes nothing.
 use mathlib.Core.Path.{sym, ◌∙◌}
 use Rattle.text_laws.specs.Steps.{history_line}
-use borrow.Author.Rules.{rules}
 use Rattle.propose_text.proofs.steps.history_line.Goals as goal
 
 pub returns-then-is_calls : goal.returns-then-is_calls

@@ -1,5 +1,4 @@
 -- `propose_text::steps::may_end` meets its contract. Assumes nothing.
-use borrow.Author.Rules.{rules}
 use Rattle.propose_text.proofs.steps.may_end.Goals as goal
 
 pub returns-in-SettingsNames : goal.returns-in-SettingsNames

@@ -5,7 +5,6 @@ use mathlib.Core.List.{List}
 use Rattle.text_laws.specs.declared.Reader.{Reader}
 use Rattle.text_laws.specs.declared.Stage.{Stage}
 use Rattle.text_laws.specs.Steps.{reading_of, line_at, step_of}
-use borrow.Author.Rules.{rules}
 use Rattle.propose_text.proofs.steps.read_line.Goals as goal
 
 -- the line that the stage awaits

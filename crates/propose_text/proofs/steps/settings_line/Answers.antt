@@ -2,12 +2,11 @@
 use mathlib.Core.Path.{◌≡◌, sym, ◌∙◌}
 use mathlib.Core.Bool.{true}
 use native.Mathlib.Omega.{arith}
-use borrow.Author.Tests.{eq-eqb, ne_eqb, not-true, not-false}
+use borrow.Author.Tests.{eq-eqb, ne_eqb}
 use Rattle.sampler_state.specs.State.{make_of}
 use Rattle.propose_lines.specs.Lines.{is_words, words_in}
 use Rattle.text_laws.specs.Steps.{settings_of, settings_line}
 use Rattle.propose_lines.proofs.Words.{read_at}
-use borrow.Author.Rules.{rules}
 use Rattle.propose_text.proofs.steps.settings_line.Goals as goal
 use Rattle.propose_text.proofs.steps.settings_line.Goals.{After-build-made, Else-not-read_words}
 

@@ -1,5 +1,4 @@
 -- `propose_text::steps::settings_of` meets its contract. Assumes nothing.
-use borrow.Author.Rules.{rules}
 use Rattle.propose_text.proofs.steps.settings_of.Goals as goal
 
 pub returns : goal.returns

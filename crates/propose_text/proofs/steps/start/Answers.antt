@@ -3,7 +3,6 @@ use mathlib.Core.Path.{◌≡◌, refl, ap, ◌∙◌}
 use mathlib.Core.Bool.{false}
 use mathlib.Core.List.{[]}
 use lib.Ieee.{binary64, of_bits, le, lt, eq}
-use borrow.Author.Rules.{rules}
 use Rattle.settings.specs.declared.Settings.{Settings}
 use Rattle.settings.specs.Settings.{settings_ok}
 use Rattle.sampler_state.specs.declared.Made.{Made}

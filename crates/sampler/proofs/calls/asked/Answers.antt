@@ -1,7 +1,6 @@
 -- `sampler::calls::asked` meets its contract. Assumes nothing.
 use mathlib.Core.Path.{sym}
 use borrow.Author.Tests.{eq-eqb, ne_eqb}
-use borrow.Author.Rules.{rules}
 use Rattle.sampler.proofs.calls.asked.Goals as goal
 
 pub returns-then-number-ne0 : goal.returns-then-number-ne0

@@ -1,10 +1,9 @@
 -- `sampler::calls::close` meets its contract. Assumes nothing.
 use mathlib.Core.Path.{◌≡◌, sym, ◌∙◌}
 use mathlib.Core.Bool.{true}
-use borrow.Author.Tests.{lt-ltb, le-ltb, not-true, not-false}
+use borrow.Author.Tests.{lt-ltb, le-ltb}
 use Rattle.sampler_laws.specs.Calls.{close_of}
 use Rattle.sampler_state.specs.State.{sampler_ok}
-use borrow.Author.Rules.{rules}
 use Rattle.sampler.proofs.calls.close.Goals as goal
 use Rattle.sampler.proofs.calls.close.Goals.{Else-not-sampler_ok}
 

@@ -2,11 +2,8 @@
 use Rattle.sampler_state.proofs.Checked.{dimensions-few}
 use mathlib.Core.Path.{◌≡◌, sym, ◌∙◌}
 use mathlib.Core.Bool.{true}
-use borrow.Author.Tests.{not-true, not-false}
-use Rattle.arith.proofs.Tests.{taken}
 use Rattle.sampler_laws.specs.Calls.{sample_of}
 use Rattle.sampler_state.specs.State.{sampler_ok}
-use borrow.Author.Rules.{rules}
 use Rattle.sampler.proofs.calls.sample.Goals as goal
 use Rattle.sampler.proofs.calls.sample.Goals.{Else-not-sampler_ok}
 

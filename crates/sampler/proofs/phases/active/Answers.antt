@@ -6,7 +6,6 @@ use borrow.Author.Tests.{lt-ltb, le-ltb}
 use Rattle.sampler_state.specs.declared.Found.{Found}
 use Rattle.sampler_state.specs.State.{held_by, spot_for}
 use Rattle.sampler_laws.specs.Calls.{active_of}
-use borrow.Author.Rules.{rules}
 use Rattle.sampler.proofs.phases.active.Goals as goal
 use Rattle.sampler.proofs.phases.active.Goals.{After-find-found}
 

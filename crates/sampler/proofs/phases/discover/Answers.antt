@@ -1,7 +1,6 @@
 -- `sampler::phases::discover` meets its contract. Assumes nothing.
 use borrow.Author.Tests.{eq-eqb, ne_eqb}
 use Rattle.sampler_laws.specs.Calls.{discover_of}
-use borrow.Author.Rules.{rules}
 use Rattle.sampler.proofs.phases.discover.Goals as goal
 
 pub returns-then-s-eq20 : goal.returns-then-s-eq20

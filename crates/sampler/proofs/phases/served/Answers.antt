@@ -4,7 +4,6 @@ use mathlib.Core.List.{[]}
 use Rattle.sampler_state.specs.declared.Sampler.{Sampler}
 use Rattle.sampler_laws.specs.Calls.{activated, active_of, unless_refused}
 use Rattle.sampler.proofs.Served.{when-active, when-discovering, when-ending}
-use borrow.Author.Rules.{rules}
 use Rattle.sampler.proofs.phases.served.Goals as goal
 
 pub returns-then-s : goal.returns-then-s

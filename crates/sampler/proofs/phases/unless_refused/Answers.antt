@@ -1,7 +1,6 @@
 -- `sampler::phases::unless_refused` meets its contract. Assumes nothing.
 use mathlib.Core.Path.{◌∙◌}
 use borrow.Author.Tests.{eq-eqb, ne_eqb}
-use borrow.Author.Rules.{rules}
 use Rattle.sampler.proofs.phases.unless_refused.Goals as goal
 
 pub returns-then-r-eq0 : goal.returns-then-r-eq0

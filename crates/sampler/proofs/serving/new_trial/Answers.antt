@@ -1,5 +1,4 @@
 -- `sampler::serving::new_trial` meets its contract. Assumes nothing.
-use borrow.Author.Rules.{rules}
 use Rattle.sampler.proofs.serving.new_trial.Goals as goal
 
 pub returns : goal.returns

@@ -1,6 +1,5 @@
 -- `sampler::serving::next` meets its contract. Assumes nothing.
 use borrow.Author.Tests.{lt-ltb, le-ltb}
-use borrow.Author.Rules.{rules}
 use Rattle.sampler.proofs.serving.next.Goals as goal
 
 pub returns-then-j-k : goal.returns-then-j-k

@@ -1,5 +1,4 @@
 -- `sampler::serving::past` meets its contract. Assumes nothing.
-use borrow.Author.Rules.{rules}
 use Rattle.sampler.proofs.serving.past.Goals as goal
 
 pub returns : goal.returns

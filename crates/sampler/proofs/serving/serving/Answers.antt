@@ -1,6 +1,5 @@
 -- `sampler::serving::serving` meets its contract. Assumes nothing.
 use Rattle.sampler_laws.specs.Calls.{serving_of}
-use borrow.Author.Rules.{rules}
 use Rattle.sampler.proofs.serving.serving.Goals as goal
 
 pub returns-then-p : goal.returns-then-p

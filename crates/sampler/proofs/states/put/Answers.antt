@@ -1,6 +1,5 @@
 -- `sampler::states::put` meets its contract. Assumes nothing.
 use borrow.Author.Tests.{eq-eqb, ne_eqb}
-use borrow.Author.Rules.{rules}
 use Rattle.sampler.proofs.states.put.Goals as goal
 
 pub returns-then-r-ne0 : goal.returns-then-r-ne0

@@ -1,5 +1,4 @@
 -- `sampler::states::with_draw` meets its contract. Assumes nothing.
-use borrow.Author.Rules.{rules}
 use Rattle.sampler.proofs.states.with_draw.Goals as goal
 
 pub returns : goal.returns

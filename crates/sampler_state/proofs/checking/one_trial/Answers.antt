@@ -2,7 +2,6 @@
 use mathlib.Core.Path.{sym, ap, ◌∙◌}
 use mathlib.Core.Bool.{Bool, ◌&&◌}
 use Rattle.sampler_state.specs.State.{holds}
-use borrow.Author.Rules.{rules}
 use Rattle.sampler_state.proofs.checking.one_trial.Goals as goal
 
 pub returns-then-is_taken : goal.returns-then-is_taken

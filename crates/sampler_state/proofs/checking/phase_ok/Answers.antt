@@ -1,5 +1,4 @@
 -- `sampler_state::checking::phase_ok` meets its contract. Assumes nothing.
-use borrow.Author.Rules.{rules}
 use Rattle.sampler_state.proofs.checking.phase_ok.Goals as goal
 
 pub returns-else-not-active : goal.returns-else-not-active

@@ -1,8 +1,6 @@
 -- `sampler_state::checking::place_ok` meets its contract. Assumes nothing.
 use mathlib.Core.Path.{sym}
-use borrow.Author.Tests.{not-true, not-false}
 use Rattle.sampler_state.specs.State.{place_ok}
-use borrow.Author.Rules.{rules}
 use Rattle.sampler_state.proofs.checking.place_ok.Goals as goal
 
 pub returns-then-not-is_taken : goal.returns-then-not-is_taken

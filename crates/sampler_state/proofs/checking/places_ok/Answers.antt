@@ -1,7 +1,6 @@
 -- `sampler_state::checking::places_ok` meets its contract. Assumes nothing.
 use mathlib.Core.Path.{◌≡◌, refl, sym, ap, ◌∙◌}
-use Prim.Native.Nat.{ℕ, ◌-◌, ◌≤◌, ◌<◌}
-use mathlib.Core.Bool.{true}
+use Prim.Native.Nat.{ℕ, ◌<◌}
 use native.Mathlib.Numerals.{add-one}
 use native.Mathlib.Omega.{arith}
 use lib.ListN.{length, get_or}
@@ -9,7 +8,6 @@ use Rattle.arith.specs.Lists.{every}
 use Rattle.sampler_state.specs.declared.Place.{Place}
 use Rattle.sampler_state.proofs.Elements.{same-element}
 use Rattle.arith.proofs.Lists.{every-not}
-use borrow.Author.Tests.{not-true, not-false}
 use Rattle.sampler_state.specs.State.{empty_place, place_at, place_ok}
 use borrow.Author.Rules.{rules}
 use Rattle.sampler_state.proofs.checking.places_ok.Goals as goal

@@ -1,6 +1,5 @@
 -- `sampler_state::checking::progress_ok` meets its contract. Assumes nothing.
 use borrow.Author.Tests.{lt-leb, le-leb}
-use borrow.Author.Rules.{rules}
 use Rattle.sampler_state.proofs.checking.progress_ok.Goals as goal
 
 pub returns-then-p-lt1 : goal.returns-then-p-lt1

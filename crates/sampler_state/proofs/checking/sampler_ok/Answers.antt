@@ -1,13 +1,12 @@
 -- `sampler_state::checking::sampler_ok` meets its contract. Assumes nothing.
 use mathlib.Core.Path.{◌≡◌, sym, ◌∙◌}
 use mathlib.Core.Bool.{true}
-use borrow.Author.Tests.{ne_eqb, eq-eqb, not-true, not-false}
+use borrow.Author.Tests.{ne_eqb, eq-eqb}
 use Rattle.arith.proofs.Tests.{taken}
 use Rattle.dimensions.specs.Dimensions.{dimensions_ok}
 use Rattle.dimensions.proofs.Ok.{dimensions-ok}
 use Rattle.settings.specs.Settings.{settings_ok}
 use Rattle.sampler_state.specs.State.{sampler_ok}
-use borrow.Author.Rules.{rules}
 use Rattle.sampler_state.proofs.checking.sampler_ok.Goals as goal
 use Rattle.sampler_state.proofs.checking.sampler_ok.Goals.{Else-not-dimensions_ok, Else-not-in_range}
 

@@ -1,7 +1,7 @@
 -- `sampler_state::checking::trial_once` meets its contract. Assumes nothing.
 use mathlib.Core.Path.{◌≡◌, refl, sym, ap, ◌∙◌}
-use Prim.Native.Nat.{ℕ, ◌-◌, ◌≤◌, ◌<◌}
-use mathlib.Core.Bool.{true, not, ◌&&◌}
+use Prim.Native.Nat.{ℕ, ◌<◌}
+use mathlib.Core.Bool.{not, ◌&&◌}
 use native.Mathlib.Numerals.{add-one}
 use native.Mathlib.Omega.{arith}
 use lib.ListN.{length, get_or}

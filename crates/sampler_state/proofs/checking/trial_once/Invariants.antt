@@ -1,15 +1,8 @@
-use mathlib.Core.Path.{◌≡◌, refl, sym, ap, ◌∙◌}
-use Prim.Native.Nat.{ℕ, ◌-◌, ◌≤◌, ◌<◌}
+use mathlib.Core.Path.{◌≡◌}
+use Prim.Native.Nat.{◌-◌, ◌≤◌}
 use mathlib.Core.Bool.{true, not, ◌&&◌}
-use native.Mathlib.Numerals.{add-one}
-use native.Mathlib.Omega.{arith}
-use lib.ListN.{length, get_or}
 use Rattle.arith.specs.Lists.{every}
-use Rattle.sampler_state.specs.declared.Place.{Place}
-use Rattle.sampler_state.proofs.Elements.{same-element}
-use Rattle.arith.proofs.Lists.{every-not}
-use Rattle.sampler_state.specs.State.{empty_place, place_at, taken, holds}
-use borrow.Author.Rules.{rules}
+use Rattle.sampler_state.specs.State.{place_at, taken, holds}
 use Rattle.sampler_state.proofs.checking.trial_once.Given as goal
 
 abbrev pub invariant-loop-b : goal.invariant-loop-b

@@ -1,12 +1,11 @@
 -- `sampler_state::checking::trials_once` meets its contract. Assumes nothing.
 use mathlib.Core.Path.{◌≡◌, refl, sym, ap, ◌∙◌}
-use Prim.Native.Nat.{ℕ, ◌-◌, ◌≤◌}
-use mathlib.Core.Bool.{true, not, ◌&&◌}
+use Prim.Native.Nat.{ℕ}
+use mathlib.Core.Bool.{not, ◌&&◌}
 use native.Mathlib.Numerals.{add-one}
 use native.Mathlib.Omega.{arith}
 use Rattle.arith.specs.Lists.{every}
 use Rattle.arith.proofs.Lists.{every-not}
-use borrow.Author.Tests.{not-true, not-false}
 use Rattle.sampler_state.specs.State.{place_at, taken, holds, trials_once}
 use borrow.Author.Rules.{rules}
 use Rattle.sampler_state.proofs.checking.trials_once.Goals as goal

@@ -1,13 +1,8 @@
-use mathlib.Core.Path.{◌≡◌, refl, sym, ap, ◌∙◌}
-use Prim.Native.Nat.{ℕ, ◌-◌, ◌≤◌}
+use mathlib.Core.Path.{◌≡◌}
+use Prim.Native.Nat.{◌-◌, ◌≤◌}
 use mathlib.Core.Bool.{true, not, ◌&&◌}
-use native.Mathlib.Numerals.{add-one}
-use native.Mathlib.Omega.{arith}
 use Rattle.arith.specs.Lists.{every}
-use Rattle.arith.proofs.Lists.{every-not}
-use borrow.Author.Tests.{not-true, not-false}
-use Rattle.sampler_state.specs.State.{place_at, taken, holds, trials_once}
-use borrow.Author.Rules.{rules}
+use Rattle.sampler_state.specs.State.{place_at, taken, holds}
 use Rattle.sampler_state.proofs.checking.trials_once.Given as goal
 
 abbrev pub invariant-loop-a : goal.invariant-loop-a

@@ -4,7 +4,6 @@ use Rattle.distribution.specs.declared.Distribution.{Distribution}
 use Rattle.distribution.specs.Taken.{taken_of}
 use Rattle.sampler_state.specs.State.{stored_ok}
 use Rattle.sampler_state.proofs.StoredValues.{float_same, choice-same}
-use borrow.Author.Rules.{rules}
 use Rattle.sampler_state.proofs.checking.value_ok.Goals as goal
 
 pub returns-in-Float : goal.returns-in-Float

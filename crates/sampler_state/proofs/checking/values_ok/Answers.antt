@@ -1,13 +1,11 @@
 -- `sampler_state::checking::values_ok` meets its contract. Assumes nothing.
 use mathlib.Core.Path.{◌≡◌, refl, sym, ap, ◌∙◌}
-use Prim.Native.Nat.{ℕ, ◌-◌, ◌≤◌, ◌<◌}
-use mathlib.Core.Bool.{true}
+use Prim.Native.Nat.{ℕ, ◌<◌}
 use native.Mathlib.Numerals.{add-one}
 use native.Mathlib.Omega.{arith}
 use lib.ListN.{length, get_or}
 use Rattle.arith.specs.Lists.{every}
 use Rattle.arith.proofs.Lists.{every-not}
-use borrow.Author.Tests.{not-true, not-false}
 use Rattle.dimensions.specs.Dimensions.{dimension_at}
 use Rattle.dimensions.specs.declared.Stored.{Stored}
 use Rattle.dimensions.specs.Empty.{empty_stored}

@@ -1,9 +1,7 @@
 -- `sampler_state::making::build` meets its contract. Assumes nothing.
 use mathlib.Core.Path.{sym}
 use lib.Ieee.{of_bits}
-use borrow.Author.Tests.{not-true, not-false}
 use Rattle.sampler_state.specs.State.{make_of}
-use borrow.Author.Rules.{rules}
 use Rattle.sampler_state.proofs.making.build.Goals as goal
 
 pub returns-then-not-in_range : goal.returns-then-not-in_range

@@ -1,5 +1,4 @@
 -- `sampler_state::making::fresh` meets its contract. Assumes nothing.
-use borrow.Author.Rules.{rules}
 use Rattle.sampler_state.proofs.making.fresh.Goals as goal
 
 pub returns : goal.returns

@@ -1,6 +1,5 @@
 -- `sampler_state::places::taken_one` meets its contract. Assumes nothing.
 use mathlib.Core.Path.{sym}
-use borrow.Author.Rules.{rules}
 use Rattle.sampler_state.proofs.places.taken_one.Goals as goal
 
 pub returns-then-is_taken : goal.returns-then-is_taken

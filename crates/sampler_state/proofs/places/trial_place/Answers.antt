@@ -4,8 +4,7 @@ use native.Mathlib.Omega.{arith}
 use Rattle.sampler_state.specs.declared.Place.{Place}
 use Rattle.sampler_state.proofs.Elements.{same-element}
 use mathlib.Core.Path.{◌≡◌, refl, sym, ap, ◌∙◌}
-use Prim.Native.Nat.{ℕ, ◌-◌, ◌≤◌, ◌<◌}
-use mathlib.Core.Bool.{true, not}
+use Prim.Native.Nat.{ℕ, ◌<◌}
 use lib.ListN.{length, get_or}
 use Rattle.arith.specs.Lists.{every}
 use Rattle.arith.proofs.Lists.{place_is, place_none}

@@ -1,15 +1,8 @@
-use native.Mathlib.Numerals.{add-one}
-use native.Mathlib.Omega.{arith}
-use Rattle.sampler_state.specs.declared.Place.{Place}
-use Rattle.sampler_state.proofs.Elements.{same-element}
-use mathlib.Core.Path.{◌≡◌, refl, sym, ap, ◌∙◌}
-use Prim.Native.Nat.{ℕ, ◌-◌, ◌≤◌, ◌<◌}
+use mathlib.Core.Path.{◌≡◌}
+use Prim.Native.Nat.{◌-◌, ◌≤◌}
 use mathlib.Core.Bool.{true, not}
-use lib.ListN.{length, get_or}
 use Rattle.arith.specs.Lists.{every}
-use Rattle.arith.proofs.Lists.{place_is, place_none}
-use Rattle.sampler_state.specs.State.{empty_place, place_at, holds, trial_place}
-use borrow.Author.Rules.{rules}
+use Rattle.sampler_state.specs.State.{place_at, holds}
 use Rattle.sampler_state.proofs.places.trial_place.Given as goal
 
 abbrev pub invariant-loop-i : goal.invariant-loop-i

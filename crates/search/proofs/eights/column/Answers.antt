@@ -1,11 +1,10 @@
 -- `search::eights::column` meets its contract: before each turn the arrays hold the p draws passed. Assumes nothing.
-use Prim.Native.Nat.{◌-◌, ◌≤◌}
 use mathlib.Core.Path.{◌≡◌, refl}
 use native.Mathlib.Numerals.{add-one}
 use native.Mathlib.Omega.{arith}
 use lib.ListN.{get_or}
 use lib.Ieee.{binary64, of_bits}
-use Rattle.arith.specs.Lists.{grown, list_of, filled, padded}
+use Rattle.arith.specs.Lists.{grown}
 use Rattle.arith.proofs.Lists.{grown-set, grown-filled-set, eight-filled}
 use Rattle.rng_util.specs.Draws.{unit_draw_of}
 use borrow.Author.Rules.{rules}

@@ -1,13 +1,8 @@
 use Prim.Native.Nat.{◌-◌, ◌≤◌}
-use mathlib.Core.Path.{◌≡◌, refl}
-use native.Mathlib.Numerals.{add-one}
-use native.Mathlib.Omega.{arith}
+use mathlib.Core.Path.{◌≡◌}
 use lib.ListN.{get_or}
-use lib.Ieee.{binary64, of_bits}
-use Rattle.arith.specs.Lists.{grown, list_of, filled, padded}
-use Rattle.arith.proofs.Lists.{grown-set, grown-filled-set, eight-filled}
+use Rattle.arith.specs.Lists.{list_of, filled, padded}
 use Rattle.rng_util.specs.Draws.{unit_draw_of}
-use borrow.Author.Rules.{rules}
 use Rattle.search.proofs.eights.column.Given as goal
 
 abbrev pub invariant-loop-p : goal.invariant-loop-p

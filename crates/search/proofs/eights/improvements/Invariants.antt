@@ -1,17 +1,13 @@
 use Prim.Native.Nat.{◌-◌, ◌≤◌}
-use mathlib.Core.Path.{◌≡◌, refl, ap}
-use native.Mathlib.Numerals.{add-one}
-use native.Mathlib.Omega.{arith}
+use mathlib.Core.Path.{◌≡◌}
 use lib.IntN.{pos}
 use lib.ListN.{get_or}
-use lib.Ieee.{nan, binary64, sub, of_bits, of_int}
+use lib.Ieee.{nan, binary64, sub, of_int}
 use Rattle.acquisition.specs.Improvement.{expected_improvement_of}
 use Rattle.arith.specs.Choice.{positive_part}
-use Rattle.arith.specs.Lists.{grown, list_of, padded}
+use Rattle.arith.specs.Lists.{list_of, padded}
 use Rattle.arith.specs.Outcome.{value_of}
 use Rattle.root.specs.Sqrt.{sqrt_of}
-use Rattle.arith.proofs.Lists.{grown-set, eight-filled}
-use borrow.Author.Rules.{rules}
 use Rattle.search.proofs.eights.improvements.Given as goal
 
 abbrev pub invariant-loop-p : goal.invariant-loop-p

@@ -3,7 +3,6 @@ use mathlib.Core.Path.{◌≡◌, ap}
 use mathlib.Core.Bool.{true, false}
 use lib.Ieee.{lt}
 use Rattle.search.specs.declared.Candidate.{Candidate}
-use borrow.Author.Rules.{rules}
 use Rattle.search.proofs.eights.kept.Goals as goal
 
 pub returns-then-ei-s : goal.returns-then-ei-s

@@ -1,5 +1,4 @@
 -- `search::eights::kept_each` meets its contract: before each turn s has seen the p points passed. Assumes nothing.
-use Prim.Native.Nat.{◌-◌, ◌≤◌}
 use mathlib.Core.Path.{◌≡◌, refl}
 use native.Mathlib.Numerals.{add-one}
 use native.Mathlib.Omega.{arith}

@@ -1,9 +1,6 @@
 use Prim.Native.Nat.{◌-◌, ◌≤◌}
-use mathlib.Core.Path.{◌≡◌, refl}
-use native.Mathlib.Numerals.{add-one}
-use native.Mathlib.Omega.{arith}
+use mathlib.Core.Path.{◌≡◌}
 use Rattle.search.specs.Eights.{kept_each_of}
-use borrow.Author.Rules.{rules}
 use Rattle.search.proofs.eights.kept_each.Given as goal
 
 abbrev pub invariant-loop-p : goal.invariant-loop-p

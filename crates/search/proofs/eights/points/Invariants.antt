@@ -1,16 +1,8 @@
 use Prim.Native.Nat.{ℕ, ◌-◌, ◌≤◌, ◌<◌}
-use mathlib.Core.Path.{◌≡◌, refl}
-use native.Mathlib.Numerals.{add-one}
-use native.Mathlib.Omega.{arith}
+use mathlib.Core.Path.{◌≡◌}
 use lib.ListN.{get_or}
-use lib.Ieee.{of_bits}
-use Rattle.arith.specs.Lists.{grown}
-use Rattle.arith.proofs.Lists.{grown-filled-set}
-use Rattle.lanes.specs.Rows.{zero_row}
 use Rattle.rng_util.specs.Generator.{moved_of}
 use Rattle.search.specs.Eights.{points_of}
-use Rattle.search.proofs.Beside.{column-values, column-next}
-use borrow.Author.Rules.{rules}
 use Rattle.search.proofs.eights.points.Given as goal
 
 abbrev pub invariant-loop-j : goal.invariant-loop-j

@@ -3,7 +3,6 @@ use Prim.Native.Nat.{◌-◌}
 use mathlib.Core.Path.{◌≡◌}
 use native.Mathlib.Omega.{arith}
 use Rattle.search.proofs.LaneScores.{score-lanes}
-use borrow.Author.Rules.{rules}
 use Rattle.search.proofs.eights.scores.Goals as goal
 
 pub returns : goal.returns

@@ -1,9 +1,9 @@
 -- `search::eights::starts` meets its contract: before each turn the array holds the words before the p points passed. Assumes nothing.
-use Prim.Native.Nat.{◌-◌, ◌*◌, ◌≤◌}
+use Prim.Native.Nat.{◌*◌}
 use mathlib.Core.Path.{◌≡◌, refl}
 use native.Mathlib.Numerals.{add-one}
 use native.Mathlib.Omega.{arith}
-use Rattle.arith.specs.Lists.{grown, list_of, filled}
+use Rattle.arith.specs.Lists.{grown}
 use Rattle.arith.proofs.Lists.{grown-filled-set, eight-filled}
 use Rattle.rng_util.specs.Generator.{moved_of}
 use Rattle.rng_util.proofs.Nonzero.{moved-nonzero}

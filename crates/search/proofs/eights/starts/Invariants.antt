@@ -1,13 +1,7 @@
 use Prim.Native.Nat.{◌-◌, ◌*◌, ◌≤◌}
-use mathlib.Core.Path.{◌≡◌, refl}
-use native.Mathlib.Numerals.{add-one}
-use native.Mathlib.Omega.{arith}
-use Rattle.arith.specs.Lists.{grown, list_of, filled}
-use Rattle.arith.proofs.Lists.{grown-filled-set, eight-filled}
+use mathlib.Core.Path.{◌≡◌}
+use Rattle.arith.specs.Lists.{list_of, filled}
 use Rattle.rng_util.specs.Generator.{moved_of}
-use Rattle.rng_util.proofs.Nonzero.{moved-nonzero}
-use Rattle.search.proofs.Beside.{word_after}
-use borrow.Author.Rules.{rules}
 use Rattle.search.proofs.eights.starts.Given as goal
 
 abbrev pub invariant-loop-p : goal.invariant-loop-p

@@ -1,8 +1,6 @@
 -- `search::searching::advance` meets its contract: before each turn s is the start advanced by i candidates. Assumes nothing.
-use Prim.Native.Nat.{◌-◌, ◌≤◌}
 use mathlib.Core.Path.{◌≡◌, refl}
 use native.Mathlib.Omega.{arith}
-use Rattle.rng_util.proofs.Nonzero.{Nonzero}
 use Rattle.search.specs.Search.{parts_of, advance_of}
 use Rattle.search.proofs.Beside.{advance-add, advance-nonzero}
 use borrow.Author.Rules.{rules}

@@ -1,10 +1,7 @@
 use Prim.Native.Nat.{◌-◌, ◌≤◌}
-use mathlib.Core.Path.{◌≡◌, refl}
-use native.Mathlib.Omega.{arith}
+use mathlib.Core.Path.{◌≡◌}
 use Rattle.rng_util.proofs.Nonzero.{Nonzero}
 use Rattle.search.specs.Search.{parts_of, advance_of}
-use Rattle.search.proofs.Beside.{advance-add, advance-nonzero}
-use borrow.Author.Rules.{rules}
 use Rattle.search.proofs.searching.advance.Given as goal
 
 abbrev pub invariant-loop-i : goal.invariant-loop-i

@@ -1,15 +1,14 @@
 -- `search::searching::draw` meets its contract: before each turn the array holds the j words drawn as unit floats. Assumes nothing.
-use Prim.Native.Nat.{ℕ, suc, ◌-◌, ◌≤◌}
+use Prim.Native.Nat.{ℕ, suc}
 use mathlib.Core.Path.{◌≡◌, refl, ap, ◌∙◌}
 use native.Mathlib.Numerals.{add-one}
 use native.Mathlib.Omega.{arith}
 use lib.Ieee.{of_bits}
-use Rattle.arith.specs.Lists.{grown, padded}
+use Rattle.arith.specs.Lists.{grown}
 use Rattle.arith.proofs.Lists.{grown-set}
 use Rattle.rng_util.specs.Draws.{unit_of, unit_draw_of}
 use Rattle.rng_util.specs.Generator.{moved_of}
 use Rattle.rng_util.proofs.Nonzero.{Nonzero, nonzero-test, moved-nonzero}
-use Rattle.search.specs.Search.{point_of}
 use borrow.Author.Rules.{rules}
 use Rattle.search.proofs.searching.draw.Goals as goal
 use Rattle.search.proofs.searching.draw.Goals.{Start}

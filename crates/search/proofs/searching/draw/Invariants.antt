@@ -1,15 +1,8 @@
-use Prim.Native.Nat.{ℕ, suc, ◌-◌, ◌≤◌}
-use mathlib.Core.Path.{◌≡◌, refl, ap, ◌∙◌}
-use native.Mathlib.Numerals.{add-one}
-use native.Mathlib.Omega.{arith}
-use lib.Ieee.{of_bits}
-use Rattle.arith.specs.Lists.{grown, padded}
-use Rattle.arith.proofs.Lists.{grown-set}
-use Rattle.rng_util.specs.Draws.{unit_of, unit_draw_of}
+use Prim.Native.Nat.{◌-◌, ◌≤◌}
+use mathlib.Core.Path.{◌≡◌}
+use Rattle.arith.specs.Lists.{padded}
 use Rattle.rng_util.specs.Generator.{moved_of}
-use Rattle.rng_util.proofs.Nonzero.{Nonzero, nonzero-test, moved-nonzero}
 use Rattle.search.specs.Search.{point_of}
-use borrow.Author.Rules.{rules}
 use Rattle.search.proofs.searching.draw.Given as goal
 
 abbrev pub invariant-loop-j : goal.invariant-loop-j

@@ -1,7 +1,6 @@
 -- `search::searching::draw_point` meets its contract. Assumes nothing.
 use borrow.Author.Tests.{le-leb, lt-leb, eq-eqb, ne_eqb}
 use Rattle.search.specs.Search.{draw_point_of}
-use borrow.Author.Rules.{rules}
 use Rattle.search.proofs.searching.draw_point.Goals as goal
 
 pub returns-then-word-ne0 : goal.returns-then-word-ne0

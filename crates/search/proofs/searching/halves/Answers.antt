@@ -1,10 +1,8 @@
 -- `search::searching::halves` meets its contract: before each turn the array holds j halves. Assumes nothing.
-use Prim.Native.Nat.{◌-◌, ◌≤◌}
 use mathlib.Core.Path.{◌≡◌, refl, sym}
 use native.Mathlib.Omega.{arith}
 use lib.ListN.{replicate, length-replicate, replicate-append-replicate}
 use lib.Ieee.{binary64, of_bits}
-use Rattle.arith.specs.Lists.{padded}
 use Rattle.arith.proofs.Lists.{padded-set-at}
 use borrow.Author.Rules.{rules}
 use Rattle.search.proofs.searching.halves.Goals as goal

@@ -1,11 +1,8 @@
 use Prim.Native.Nat.{◌-◌, ◌≤◌}
-use mathlib.Core.Path.{◌≡◌, refl, sym}
-use native.Mathlib.Omega.{arith}
-use lib.ListN.{replicate, length-replicate, replicate-append-replicate}
+use mathlib.Core.Path.{◌≡◌}
+use lib.ListN.{replicate}
 use lib.Ieee.{binary64, of_bits}
 use Rattle.arith.specs.Lists.{padded}
-use Rattle.arith.proofs.Lists.{padded-set-at}
-use borrow.Author.Rules.{rules}
 use Rattle.search.proofs.searching.halves.Given as goal
 
 abbrev pub invariant-loop-j : goal.invariant-loop-j

@@ -1,14 +1,9 @@
 use Prim.Native.Nat.{◌-◌, ◌≤◌}
-use mathlib.Core.Path.{◌≡◌, refl, sym}
+use mathlib.Core.Path.{◌≡◌}
 use mathlib.Core.Bool.{true}
-use native.Mathlib.Numerals.{add-one}
-use native.Mathlib.Omega.{arith}
 use lib.Dec.{eqb}
 use lib.ListN.{get_or}
-use borrow.Author.Tests.{eq-eqb, ne_eqb}
 use Rattle.arith.specs.Lists.{every}
-use Rattle.arith.proofs.Lists.{every-not}
-use borrow.Author.Rules.{rules}
 use Rattle.slots.proofs.slot.all_zero.Given as goal
 
 abbrev pub invariant-loop-k : goal.invariant-loop-k

@@ -1,6 +1,5 @@
 -- `slots::slot::has_id` meets its contract. Assumes nothing.
 use mathlib.Core.Path.{sym}
-use borrow.Author.Rules.{rules}
 use Rattle.slots.proofs.slot.has_id.Goals as goal
 
 pub returns-then-is_present : goal.returns-then-is_present

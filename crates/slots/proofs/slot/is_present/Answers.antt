@@ -1,6 +1,5 @@
 -- `slots::slot::is_present` meets its contract. Assumes nothing.
 use mathlib.Core.Path.{sym}
-use borrow.Author.Rules.{rules}
 use Rattle.slots.proofs.slot.is_present.Goals as goal
 
 pub returns : goal.returns

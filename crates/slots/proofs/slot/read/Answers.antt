@@ -1,7 +1,6 @@
 -- `slots::slot::read` meets its contract. Assumes nothing.
 use mathlib.Core.Path.{sym}
 use Rattle.slots.specs.Slot.{slot_read}
-use borrow.Author.Rules.{rules}
 use Rattle.slots.proofs.slot.read.Goals as goal
 
 pub returns : goal.returns

@@ -1,5 +1,4 @@
 -- `slots::slot::reads_equal` meets its contract. Assumes nothing.
-use borrow.Author.Rules.{rules}
 use Rattle.slots.proofs.slot.reads_equal.Goals as goal
 
 pub returns-in-WellFormed-b : goal.returns-in-WellFormed-b

@@ -1,6 +1,5 @@
 -- `slots::slot::same_id` meets its contract. Assumes nothing.
 use mathlib.Core.Path.{sym}
-use borrow.Author.Rules.{rules}
 use Rattle.slots.proofs.slot.same_id.Goals as goal
 
 pub returns-then-is_present-2 : goal.returns-then-is_present-2

@@ -1,7 +1,6 @@
 -- `slots::slot::slot_ok` meets its contract. Assumes nothing.
 use mathlib.Core.Path.{sym}
 use Rattle.slots.specs.Slot.{slot_ok}
-use borrow.Author.Rules.{rules}
 use Rattle.slots.proofs.slot.slot_ok.Goals as goal
 
 pub returns-then-is_present : goal.returns-then-is_present

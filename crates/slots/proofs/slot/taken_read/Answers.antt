@@ -1,7 +1,6 @@
 -- `slots::slot::taken_read` meets its contract. Assumes nothing.
 use mathlib.Core.Path.{ap, ◌∙◌}
 use Rattle.distribution.specs.Taken.{taken_of}
-use borrow.Author.Rules.{rules}
 use Rattle.slots.proofs.slot.taken_read.Goals as goal
 
 pub returns-in-WellFormed : goal.returns-in-WellFormed

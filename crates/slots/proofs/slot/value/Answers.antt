@@ -1,6 +1,5 @@
 -- `slots::slot::value` meets its contract. Assumes nothing.
 use mathlib.Core.Path.{sym}
-use borrow.Author.Rules.{rules}
 use Rattle.slots.proofs.slot.value.Goals as goal
 
 pub returns : goal.returns

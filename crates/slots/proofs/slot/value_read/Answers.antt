@@ -1,5 +1,4 @@
 -- `slots::slot::value_read` meets its contract. Assumes nothing.
-use borrow.Author.Rules.{rules}
 use Rattle.slots.proofs.slot.value_read.Goals as goal
 
 pub returns-in-WellFormed : goal.returns-in-WellFormed

@@ -1,7 +1,6 @@
 -- `slots::slot::word` meets its contract. Assumes nothing.
 use mathlib.Core.Path.{sym}
 use lib.ListN.{get_or-eq_default}
-use borrow.Author.Rules.{rules}
 use Rattle.slots.proofs.slot.word.Goals as goal
 
 pub returns-else-k-slot : goal.returns-else-k-slot
