@@ -17,7 +17,10 @@ pub enum Read {
 pub(crate) fn answer(line: &[u8], words: &mut [u64], results: &mut Results) -> Reply
     ensures { ResultsFit result }
 {
-    let end = bytes::scan::find(line, 0, line.len(), b' ');
+    let end = match line.iter().position(|b| *b == b' ') {
+        Some(at) => at,
+        None => line.len(),
+    };
     let read = read_words(line, end, words);
     match read {
         Read::Words(n) => call(&line[0..end], &words[0..n], results),

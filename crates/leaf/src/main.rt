@@ -16,10 +16,10 @@ mod records;
 mod reply;
 mod runs;
 
-fn main() {
-    let mut held = io::large_buffer();
-    let mut out = io::large_buffer();
+fn main(rt: HostRuntime) {
+    let mut held = [0u8; 65536];
+    let mut out = [0u8; 65536];
     let mut words = [0u64; 4096];
     let mut results = [0u64; 8192];
-    input::run(&mut held, &mut out, &mut words, &mut results);
+    input::run(rt, &mut held, &mut out, &mut words, &mut results);
 }
