@@ -1,4 +1,5 @@
-// Reads the text of `propose` from standard input and writes every point that was drawn for a new trial with a model, with its expected improvement.
+// Reads the text of `propose` from standard input and writes every point that was drawn for a new trial with a model,
+// with its expected improvement.
 #![tactic(auto)]
 
 use std::env::{Env, FillError};

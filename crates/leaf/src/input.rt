@@ -4,8 +4,8 @@ ghost use Rattle.std.specs.Prelude.{◌≤◌, length};
 use crate::reply::{Reply, Results};
 use crate::{line, output};
 
-// Between two reads: how many bytes of a line are held, whether this line was longer than the buffer before them, where the
-// output stands, and whether to read on.
+// Between two reads: how many bytes of a line are held, whether this line was longer than the buffer before them, where
+// the output stands, and whether to read on.
 #[derive(Drop)]
 struct Held {
     have: usize,
@@ -14,8 +14,8 @@ struct Held {
     more: bool,
 }
 
-// What the whole lines of the bytes held came to: how many bytes they were, whether the rest is of a line longer than the
-// buffer, and where the output stands.
+// What the whole lines of the bytes held came to: how many bytes they were, whether the rest is of a line longer than
+// the buffer, and where the output stands.
 #[derive(Drop)]
 struct Done {
     used: usize,
@@ -126,7 +126,8 @@ fn turn(
 }
 
 // Reads to the end of the input, and answers every line that ends in a newline.
-// A proved loop has to end, and nothing says that the input does: the turns are counted down from a number that no run uses up.
+// A proved loop has to end, and nothing says that the input does: the turns are counted down from a number that no run
+// uses up.
 fn all(
     rt: HostRuntime,
     buf: &mut [u8],

@@ -28,8 +28,8 @@ pub(crate) fn answer(line: &[u8], words: &mut [u64], results: &mut Results) -> R
     }
 }
 
-// The leaf of that name, called on these words. The names are tried group by group, each in a function of its own: what proving a
-// chain of tests costs grows with the square of its length.
+// The leaf of that name, called on these words. The names are tried group by group, each in a function of its own: what
+// proving a chain of tests costs grows with the square of its length.
 fn call(name: &[u8], args: &[u64], results: &mut Results) -> Reply
     ensures { ResultsFit result }
 {

@@ -1,5 +1,6 @@
-// Runs the project's leaves. A line of standard input is a name and words of sixteen hexadecimal digits; for each line it writes
-// one: the call's number, and the words of its result where that is 0. A line that it cannot read is answered by `?`.
+// Runs the project's leaves. A line of standard input is a name and words of sixteen hexadecimal digits; for each line
+// it writes one: the call's number, and the words of its result where that is 0. A line that it cannot read is answered
+// by `?`.
 //
 // A new leaf is a function in the module of its crate and a name in its group in `line`.
 #![tactic(auto)]

@@ -1,5 +1,7 @@
-// One text from standard input, in pieces of any length, and on standard output its answers, or the points scored for its new trials (`scores`).
-// What a call of the system reads or writes no contract can say: all that is judged comes from `propose_text`, and these functions are tested.
+// One text from standard input, in pieces of any length, and on standard output its answers, or the points scored for
+// its new trials (`scores`).
+// What a call of the system reads or writes no contract can say: all that is judged comes from `propose_text`, and
+// these functions are tested.
 #![tactic(auto)]
 
 mod scores;
@@ -8,7 +10,8 @@ ghost use Rattle.std.specs.Prelude.{◌+◌, ◌≤◌, length};
 
 use text_laws::{Reader, Stage, Step};
 
-// Between two reads: the reader, how many bytes of a line are held, how many of the text are left, and whether to read on.
+// Between two reads: the reader, how many bytes of a line are held, how many of the text are left, and whether to read
+// on.
 #[derive(Drop)]
 struct Held {
     reader: Reader,
@@ -53,7 +56,8 @@ fn put_first(rt: HostRuntime, bytes: [u8; 68], len: usize) -> bool {
     put(rt, &bytes[0..len])
 }
 
-// Writes the bytes of a step, or its points; a step that ends the run has its bytes. Whether to read on: not after a failure, nor where the run has ended.
+// Writes the bytes of a step, or its points; a step that ends the run has its bytes. Whether to read on: not after a
+// failure, nor where the run has ended.
 fn told(rt: HostRuntime, points: bool, before: Reader, t: Step, history: &[u64]) -> bool {
     let reader = t.reader;
     let stage = reader.stage;
@@ -199,7 +203,8 @@ fn turn(
 }
 
 // Reads the text to its end, or to the end of its run. How many of its bytes are not read.
-// A proved loop has to end, and nothing says that the input does: the turns are counted down from a number that no run uses up.
+// A proved loop has to end, and nothing says that the input does: the turns are counted down from a number that no run
+// uses up.
 fn all(rt: HostRuntime, points: bool, buf: &mut [u8], limit: u64, history: &mut [u64; 8192]) -> u64
     ensures { result ≤ limit }
 {
@@ -230,7 +235,8 @@ fn run(rt: HostRuntime, points: bool, limit: u64) -> u64
     all(rt, points, &mut buf, limit, &mut history)
 }
 
-// Runs the text that the next `limit` bytes of standard input are, or those up to its end. How many of them are not read.
+// Runs the text that the next `limit` bytes of standard input are, or those up to its end. How many of them are not
+// read.
 pub fn run_text(rt: HostRuntime, limit: u64) -> u64
     ensures { result ≤ limit }
 {

@@ -1,4 +1,5 @@
-// The points drawn for a new trial with a model: a line for each, with its expected improvement and whether the trial stored it.
+// The points drawn for a new trial with a model: a line for each, with its expected improvement and whether the trial
+// stored it.
 ghost use Rattle.std.specs.Prelude.{◌+◌, ◌≤◌, length};
 
 use gp_model::{Fit, Model};
@@ -96,7 +97,8 @@ fn fit(x: [f64; 2000], y: [f64; 100], n: usize, d: usize, noise_variance: f64) -
     gp_model::fit_gp(&x[0..n * d], &y[0..n], d, noise_variance)
 }
 
-// The points of a new trial, where this sampler has a model for it. Whether all is written. (No training data have over 100 rows or 20 columns.)
+// The points of a new trial, where this sampler has a model for it. Whether all is written. (No training data have over
+// 100 rows or 20 columns.)
 fn put_trial(rt: HostRuntime, s: Sampler, trial: u64, h: &[u64]) -> bool {
     let settings = s.settings;
     let dims = s.dimensions;

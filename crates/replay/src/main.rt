@@ -1,4 +1,5 @@
-// Runs stored texts, each after a line with its length in bytes, by the functions that `propose` runs; what it writes is held to the Rust's answers.
+// Runs stored texts, each after a line with its length in bytes, by the functions that `propose` runs; what it writes
+// is held to the Rust's answers.
 #![tactic(auto)]
 
 use std::io::Read;
