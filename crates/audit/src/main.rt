@@ -1,13 +1,17 @@
-// Reads the text of `propose` from standard input and writes every point that was drawn for a new trial with a model, with its expected improvement.
+// Reads the text of `propose` from standard input and writes every point that was drawn for a new trial with a model,
+// with its expected improvement.
 #![tactic(auto)]
 
-fn main() {
-    if os::arg_count() > 1 {
-        io::write_all(
-            2,
-            b"audit takes no argument. It reads the text of propose from standard input, and writes the points drawn for each new trial with a model: audit < TEXT\n",
+use std::env::{Env, FillError};
+
+fn main(rt: HostRuntime) {
+    let mut argument = [0u8; 1];
+    if !matches!(rt.arg(1, &mut argument), Err(FillError::NotPresent)) {
+        let _ = eprintln!(rt;
+            "audit takes no argument. It reads the text of propose from standard input, \
+             and writes the points drawn for each new trial with a model: audit < TEXT"
         );
         return;
     }
-    propose_io::run_points(u64::MAX);
+    propose_io::run_points(rt, u64::MAX);
 }

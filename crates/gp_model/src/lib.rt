@@ -10,7 +10,7 @@ pub use kernels::similarity;
 pub use statistics::all_within;
 
 // A fitted model: its n rows of d columns, lengthscales, factor, weights and best value. What lies past the counts is zero.
-#[derive(Drop)]
+#[derive(Clone, Copy)]
 pub struct Model {
     pub x_train: [f64; 2000],
     pub lengthscales: [f64; 20],

@@ -4,8 +4,8 @@ ghost use Rattle.std.specs.Prelude.{◌≤◌, length};
 use crate::reply::{Reply, Results};
 use crate::{line, output};
 
-// Between two reads: how many bytes of a line are held, whether this line was longer than the buffer before them, where the
-// output stands, and whether to read on.
+// Between two reads: how many bytes of a line are held, whether this line was longer than the buffer before them, where
+// the output stands, and whether to read on.
 #[derive(Drop)]
 struct Held {
     have: usize,
@@ -14,8 +14,8 @@ struct Held {
     more: bool,
 }
 
-// What the whole lines of the bytes held came to: how many bytes they were, whether the rest is of a line longer than the
-// buffer, and where the output stands.
+// What the whole lines of the bytes held came to: how many bytes they were, whether the rest is of a line longer than
+// the buffer, and where the output stands.
 #[derive(Drop)]
 struct Done {
     used: usize,
@@ -25,6 +25,7 @@ struct Done {
 
 // One line, answered. `long`: these bytes are the end of a line that is longer than the buffer.
 fn answered(
+    rt: HostRuntime,
     s: &[u8],
     long: bool,
     words: &mut [u64],
@@ -36,14 +37,15 @@ fn answered(
     ensures { result ≤ length out.old }
 {
     if long || s.len() > 65000 {
-        return output::put(out, at, Reply::Unreadable, results);
+        return output::put(rt, out, at, Reply::Unreadable, results);
     }
     let reply = line::answer(s, words, results);
-    output::put(out, at, reply, results)
+    output::put(rt, out, at, reply, results)
 }
 
 // Every whole line of the first `end` bytes, answered.
 fn lines(
+    rt: HostRuntime,
     s: &[u8],
     end: usize,
     long: bool,
@@ -59,15 +61,15 @@ fn lines(
     let mut first = long;
     let mut to = at;
     while used < end {
-        let e = bytes::scan::find(s, used, end, b'\n');
-        if e == end {
+        let Some(len) = s[used..end].iter().position(|b| *b == b'\n') else {
             return Done {
                 used,
                 long: first,
                 at: to,
             };
-        }
-        to = answered(&s[used..e], first, words, results, out, to);
+        };
+        let e = used + len;
+        to = answered(rt, &s[used..e], first, words, results, out, to);
         first = false;
         used = e + 1;
     }
@@ -80,6 +82,7 @@ fn lines(
 
 // One read, with the lines that it completes. A buffer full of one line is emptied.
 fn turn(
+    rt: HostRuntime,
     buf: &mut [u8],
     have: usize,
     long: bool,
@@ -91,7 +94,7 @@ fn turn(
     requires { (have ≤ length buf.old) × (at ≤ length out.old) × (18 ≤ length out.old) }
     ensures { (result.have ≤ length buf.old) × (result.at ≤ length out.old) }
 {
-    let f = pieces::fill(&mut buf[have..]);
+    let f = pieces::fill(rt, &mut buf[have..]);
     let n = f.n;
     if n == 0 {
         return Held {
@@ -102,7 +105,7 @@ fn turn(
         };
     }
     let full = have + n;
-    let done = lines(buf, full, long, words, results, out, at);
+    let done = lines(rt, buf, full, long, words, results, out, at);
     let used = done.used;
     let left = full - used;
     if left == buf.len() {
@@ -123,8 +126,15 @@ fn turn(
 }
 
 // Reads to the end of the input, and answers every line that ends in a newline.
-// A proved loop has to end, and nothing says that the input does: the turns are counted down from a number that no run uses up.
-fn all(buf: &mut [u8], words: &mut [u64], results: &mut Results, out: &mut [u8]) -> Held
+// A proved loop has to end, and nothing says that the input does: the turns are counted down from a number that no run
+// uses up.
+fn all(
+    rt: HostRuntime,
+    buf: &mut [u8],
+    words: &mut [u64],
+    results: &mut Results,
+    out: &mut [u8],
+) -> Held
     requires { 18 ≤ length out.old }
     ensures { (result.have ≤ length buf.old) × (result.at ≤ length out.old) }
 {
@@ -136,7 +146,7 @@ fn all(buf: &mut [u8], words: &mut [u64], results: &mut Results, out: &mut [u8])
     };
     let mut turns = u64::MAX;
     while turns > 0 {
-        h = turn(buf, h.have, h.long, words, results, out, h.at);
+        h = turn(rt, buf, h.have, h.long, words, results, out, h.at);
         if !h.more {
             return h;
         }
@@ -146,7 +156,14 @@ fn all(buf: &mut [u8], words: &mut [u64], results: &mut Results, out: &mut [u8])
 }
 
 // What stands after the last newline, answered as a line.
-fn last(buf: &[u8], h: Held, words: &mut [u64], results: &mut Results, out: &mut [u8]) -> usize
+fn last(
+    rt: HostRuntime,
+    buf: &[u8],
+    h: Held,
+    words: &mut [u64],
+    results: &mut Results,
+    out: &mut [u8],
+) -> usize
     requires { (h.have ≤ length buf.now) × (h.at ≤ length out.old) × (18 ≤ length out.old) }
     ensures { result ≤ length out.old }
 {
@@ -155,14 +172,20 @@ fn last(buf: &[u8], h: Held, words: &mut [u64], results: &mut Results, out: &mut
     if have == 0 && !h.long {
         return at;
     }
-    answered(&buf[0..have], h.long, words, results, out, at)
+    answered(rt, &buf[0..have], h.long, words, results, out, at)
 }
 
 // The whole input, answered.
-pub(crate) fn run(buf: &mut [u8], out: &mut [u8], words: &mut [u64], results: &mut Results)
+pub(crate) fn run(
+    rt: HostRuntime,
+    buf: &mut [u8],
+    out: &mut [u8],
+    words: &mut [u64],
+    results: &mut Results,
+)
     requires { 18 ≤ length out.old }
 {
-    let h = all(buf, words, results, out);
-    let at = last(buf, h, words, results, out);
-    output::flush(out, at);
+    let h = all(rt, buf, words, results, out);
+    let at = last(rt, buf, h, words, results, out);
+    output::flush(rt, out, at);
 }

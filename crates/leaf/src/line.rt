@@ -17,7 +17,10 @@ pub enum Read {
 pub(crate) fn answer(line: &[u8], words: &mut [u64], results: &mut Results) -> Reply
     ensures { ResultsFit result }
 {
-    let end = bytes::scan::find(line, 0, line.len(), b' ');
+    let end = match line.iter().position(|b| *b == b' ') {
+        Some(at) => at,
+        None => line.len(),
+    };
     let read = read_words(line, end, words);
     match read {
         Read::Words(n) => call(&line[0..end], &words[0..n], results),
@@ -25,8 +28,8 @@ pub(crate) fn answer(line: &[u8], words: &mut [u64], results: &mut Results) -> R
     }
 }
 
-// The leaf of that name, called on these words. The names are tried group by group, each in a function of its own: what proving a
-// chain of tests costs grows with the square of its length.
+// The leaf of that name, called on these words. The names are tried group by group, each in a function of its own: what
+// proving a chain of tests costs grows with the square of its length.
 fn call(name: &[u8], args: &[u64], results: &mut Results) -> Reply
     ensures { ResultsFit result }
 {

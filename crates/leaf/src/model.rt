@@ -1,4 +1,5 @@
-// The leaves of `kernel`, `gp_model` and `search`: counts, then floats as words. A line whose words are not as many as its counts say is none of these.
+// The leaves of `kernel`, `gp_model` and `search`: counts, then floats as words. A line whose words are not as many as
+// its counts say is none of these.
 ghost use Rattle.std.specs.Prelude.{◌+◌, ◌≤◌, length};
 ghost use Rattle.leaf.specs.Counts.{ResultsFit};
 

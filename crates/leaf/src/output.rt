@@ -4,20 +4,20 @@ ghost use Rattle.leaf.specs.Counts.{ResultsFit};
 
 use crate::reply::{Reply, Results};
 
-// Writes what stands before `at`.
-pub(crate) fn flush(out: &[u8], at: usize)
+// Writes what stands before `at`. A failure is not told.
+pub(crate) fn flush(rt: HostRuntime, out: &[u8], at: usize)
     requires { at ≤ length out.now }
 {
-    io::write_all(1, &out[0..at]);
+    let _ = rt.write_all(&out[0..at]);
 }
 
 // Where to go on: room for a word, the space before it and the newline after it.
-fn room(out: &[u8], at: usize) -> usize
+fn room(rt: HostRuntime, out: &[u8], at: usize) -> usize
     requires { (at ≤ length out.now) × (18 ≤ length out.now) }
     ensures { result + 18 ≤ length out.now }
 {
     if out.len() - at < 18 {
-        flush(out, at);
+        flush(rt, out, at);
         return 0;
     }
     at
@@ -47,14 +47,14 @@ fn word(out: &mut [u8], at: usize, w: u64) -> usize
 }
 
 // The first n words of results, a space before each.
-fn words(out: &mut [u8], at: usize, results: &Results, n: usize) -> usize
+fn words(rt: HostRuntime, out: &mut [u8], at: usize, results: &Results, n: usize) -> usize
     requires { (at < length out.old) × (18 ≤ length out.old) × (n ≤ 8192) }
     ensures { result < length out.old }
 {
     let mut to = at;
     let mut i = 0;
     while i < n {
-        let from = room(out, to);
+        let from = room(rt, out, to);
         let start = byte(out, from, b' ');
         to = word(out, start, results[i]);
         i += 1;
@@ -63,15 +63,21 @@ fn words(out: &mut [u8], at: usize, results: &Results, n: usize) -> usize
 }
 
 // The line of a reply.
-pub(crate) fn put(out: &mut [u8], at: usize, reply: Reply, results: &Results) -> usize
+pub(crate) fn put(
+    rt: HostRuntime,
+    out: &mut [u8],
+    at: usize,
+    reply: Reply,
+    results: &Results,
+) -> usize
     requires { (at ≤ length out.old) × (18 ≤ length out.old) × ResultsFit reply }
     ensures { result ≤ length out.old }
 {
-    let from = room(out, at);
+    let from = room(rt, out, at);
     match reply {
         Reply::Accepted(n) => {
             let start = word(out, from, 0);
-            let end = words(out, start, results, n);
+            let end = words(rt, out, start, results, n);
             byte(out, end, b'\n')
         }
         Reply::Refused(number) => {

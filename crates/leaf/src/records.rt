@@ -1,4 +1,5 @@
-// The leaves of `history`: the number of slots, in `mapping` and `training` the number of dimensions and six words for each, then a history.
+// The leaves of `history`: the number of slots, in `mapping` and `training` the number of dimensions and six words for
+// each, then a history.
 // A line with fewer words than its dimensions have is none of these; over 20 dimensions or a malformed one are 11.
 ghost use Rattle.std.specs.Prelude.{◌*◌, ◌≤◌, length};
 ghost use Rattle.leaf.specs.Counts.{ResultsFit};

@@ -1,5 +1,6 @@
-// The leaf `run`: five settings of a sampler, then calls on it. `1 trial`, the six words of a distribution, k and k words of a history
-// is a sample call; `2 trial` is a close. A line that does not divide into calls is none of this leaf, whatever its settings are.
+// The leaf `run`: five settings of a sampler, then calls on it. `1 trial`, the six words of a distribution, k and k
+// words of a history is a sample call; `2 trial` is a close. A line that does not divide into calls is none of this
+// leaf, whatever its settings are.
 ghost use Rattle.std.specs.Prelude.{◌+◌, ◌≤◌, length};
 ghost use Rattle.leaf.specs.Counts.{ResultsFit};
 

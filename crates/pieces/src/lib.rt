@@ -5,6 +5,8 @@ ghost use Rattle.std.specs.Prelude.{◌≡◌, ◌-◌, ◌≤◌, length, drop}
 ghost use Rattle.std.proofs.Math.Seq.{paste};
 ghost use Rattle.pieces.specs.Kept.{kept_of};
 
+use std::io::Read;
+
 // One read: how many bytes it put at the start of the buffer, 0 at the end of the input or where it failed.
 #[derive(Drop)]
 pub struct Filled {
@@ -12,17 +14,17 @@ pub struct Filled {
     pub failed: bool,
 }
 
-// Reads once; a failure is told. What is read no contract can say.
-pub fn fill(buf: &mut [u8]) -> Filled
+// Reads once; a failure is told on standard error. What is read no contract can say.
+pub fn fill(rt: HostRuntime, buf: &mut [u8]) -> Filled
     ensures { result.n ≤ length buf.old }
 {
-    let got = libc::read(0, buf);
-    if got < 0 {
-        io::write_all(2, b"Standard input cannot be read.\n");
-        return Filled { n: 0, failed: true };
+    match rt.stdin().read(buf) {
+        Ok(n) => Filled { n, failed: false },
+        Err(_) => {
+            let _ = eprintln!(rt; "Standard input cannot be read.");
+            Filled { n: 0, failed: true }
+        }
     }
-    let n = io::count(got, buf);
-    Filled { n, failed: false }
 }
 
 // Moves the bytes from `used` up to `have` to the front.

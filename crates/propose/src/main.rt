@@ -1,13 +1,16 @@
 // Reads the three tables of a text from standard input and writes an answer for each call as it is read.
 #![tactic(auto)]
 
-fn main() {
-    if os::arg_count() > 1 {
-        io::write_all(
-            2,
-            b"propose takes no argument. It reads settings, a history and calls from standard input, and writes an answer for each call: propose < TEXT\n",
+use std::env::{Env, FillError};
+
+fn main(rt: HostRuntime) {
+    let mut argument = [0u8; 1];
+    if !matches!(rt.arg(1, &mut argument), Err(FillError::NotPresent)) {
+        let _ = eprintln!(rt;
+            "propose takes no argument. It reads settings, a history and calls from standard input, \
+             and writes an answer for each call: propose < TEXT"
         );
         return;
     }
-    propose_io::run_text(u64::MAX);
+    propose_io::run_text(rt, u64::MAX);
 }

@@ -1,5 +1,7 @@
-// One text from standard input, in pieces of any length, and on standard output its answers, or the points scored for its new trials (`scores`).
-// What a call of the system reads or writes no contract can say: all that is judged comes from `propose_text`, and these functions are tested.
+// One text from standard input, in pieces of any length, and on standard output its answers, or the points scored for
+// its new trials (`scores`).
+// What a call of the system reads or writes no contract can say: all that is judged comes from `propose_text`, and
+// these functions are tested.
 #![tactic(auto)]
 
 mod scores;
@@ -8,7 +10,8 @@ ghost use Rattle.std.specs.Prelude.{◌+◌, ◌≤◌, length};
 
 use text_laws::{Reader, Stage, Step};
 
-// Between two reads: the reader, how many bytes of a line are held, how many of the text are left, and whether to read on.
+// Between two reads: the reader, how many bytes of a line are held, how many of the text are left, and whether to read
+// on.
 #[derive(Drop)]
 struct Held {
     reader: Reader,
@@ -36,56 +39,64 @@ fn is_ended(stage: Stage) -> bool {
     }
 }
 
-// Writes these bytes; a failure is told. Whether they are written.
-pub(crate) fn put(bytes: &[u8]) -> bool {
-    if io::write_all(1, bytes) {
+// Writes these bytes; a failure is told on standard error. Whether they are written.
+pub(crate) fn put(rt: HostRuntime, bytes: &[u8]) -> bool {
+    if rt.write_all(bytes).is_ok() {
         return true;
     }
-    io::write_all(2, b"Standard output cannot be written.\n");
+    let _ = eprintln!(rt; "Standard output cannot be written.");
     false
 }
 
 // Writes the first `len` of these bytes.
-fn put_first(bytes: [u8; 68], len: usize) -> bool {
+fn put_first(rt: HostRuntime, bytes: [u8; 68], len: usize) -> bool {
     if len > 68 {
         return false;
     }
-    put(&bytes[0..len])
+    put(rt, &bytes[0..len])
 }
 
-// Writes the bytes of a step, or its points; a step that ends the run has its bytes. Whether to read on: not after a failure, nor where the run has ended.
-fn told(points: bool, before: Reader, t: Step, history: &[u64]) -> bool {
+// Writes the bytes of a step, or its points; a step that ends the run has its bytes. Whether to read on: not after a
+// failure, nor where the run has ended.
+fn told(rt: HostRuntime, points: bool, before: Reader, t: Step, history: &[u64]) -> bool {
     let reader = t.reader;
     let stage = reader.stage;
     let ended = is_ended(stage);
     if points && !ended {
-        return scores::put_step(before, t, history);
+        return scores::put_step(rt, before, t, history);
     }
     let bytes = t.bytes;
-    put_first(bytes, t.len) && !ended
+    put_first(rt, bytes, t.len) && !ended
 }
 
 // Every whole line of the first `end` bytes.
-fn lines(points: bool, reader: Reader, buf: &[u8], end: usize, history: &mut [u64; 8192]) -> Done
+fn lines(
+    rt: HostRuntime,
+    points: bool,
+    reader: Reader,
+    buf: &[u8],
+    end: usize,
+    history: &mut [u64; 8192],
+) -> Done
     requires { end ≤ length buf.now }
     ensures { result.used ≤ end }
 {
     let mut now = reader;
     let mut used = 0;
     while used < end {
-        let e = bytes::scan::find(buf, used, end, b'\n');
-        if e == end {
+        let Some(len) = buf[used..end].iter().position(|b| *b == b'\n') else {
             return Done {
                 reader: now,
                 used,
                 more: true,
             };
-        }
+        };
+        let e = used + len;
         let before = now;
         let t = propose_text::read_line(before, &buf[used..e], history);
         now = t.reader;
         used = e + 1;
-        if !told(points, before, t, history) {
+        if !told(rt, points, before, t, history) {
             return Done {
                 reader: now,
                 used,
@@ -113,6 +124,7 @@ fn asked(room: usize, left: u64) -> usize
 
 // What the bytes up to `full` come to, n of them new. A line that is longer than any table has ends the run.
 fn taken(
+    rt: HostRuntime,
     points: bool,
     reader: Reader,
     buf: &mut [u8],
@@ -123,7 +135,7 @@ fn taken(
     requires { full ≤ length buf.old }
     ensures { (result.have ≤ length buf.old) × (result.left ≤ left) }
 {
-    let done = lines(points, reader, buf, full, history);
+    let done = lines(rt, points, reader, buf, full, history);
     let used = done.used;
     let after = done.reader;
     let have = full - used;
@@ -137,7 +149,7 @@ fn taken(
     }
     if have > propose_text::LONGEST {
         let t = propose_text::read_line(after, &buf[used..full], history);
-        told(points, after, t, history);
+        told(rt, points, after, t, history);
         return Held {
             reader: after,
             have: 0,
@@ -156,6 +168,7 @@ fn taken(
 
 // One read, with the lines that it completes, or the end of the text.
 fn turn(
+    rt: HostRuntime,
     points: bool,
     reader: Reader,
     buf: &mut [u8],
@@ -167,13 +180,14 @@ fn turn(
     ensures { (result.have ≤ length buf.old) × (result.left ≤ left) }
 {
     let end = have + asked(buf.len() - have, left);
-    let f = pieces::fill(&mut buf[have..end]);
+    let f = pieces::fill(rt, &mut buf[have..end]);
     let n = f.n;
     if n > 0 {
-        return taken(points, reader, buf, have + n, left - n as u64, history);
+        return taken(rt, points, reader, buf, have + n, left - n as u64, history);
     }
     if !f.failed {
         told(
+            rt,
             points,
             reader,
             propose_text::finish(reader, &buf[0..have]),
@@ -189,8 +203,9 @@ fn turn(
 }
 
 // Reads the text to its end, or to the end of its run. How many of its bytes are not read.
-// A proved loop has to end, and nothing says that the input does: the turns are counted down from a number that no run uses up.
-fn all(points: bool, buf: &mut [u8], limit: u64, history: &mut [u64; 8192]) -> u64
+// A proved loop has to end, and nothing says that the input does: the turns are counted down from a number that no run
+// uses up.
+fn all(rt: HostRuntime, points: bool, buf: &mut [u8], limit: u64, history: &mut [u64; 8192]) -> u64
     ensures { result ≤ limit }
 {
     let mut h = Held {
@@ -202,7 +217,7 @@ fn all(points: bool, buf: &mut [u8], limit: u64, history: &mut [u64; 8192]) -> u
     let mut turns = u64::MAX;
     while turns > 0 {
         let reader = h.reader;
-        h = turn(points, reader, buf, h.have, h.left, history);
+        h = turn(rt, points, reader, buf, h.have, h.left, history);
         if !h.more {
             return h.left;
         }
@@ -212,43 +227,44 @@ fn all(points: bool, buf: &mut [u8], limit: u64, history: &mut [u64; 8192]) -> u
 }
 
 // Runs a text after its names line.
-fn run(points: bool, limit: u64) -> u64
+fn run(rt: HostRuntime, points: bool, limit: u64) -> u64
     ensures { result ≤ limit }
 {
-    let mut buf = io::large_buffer();
+    let mut buf = [0u8; 65536];
     let mut history = [0u64; 8192];
-    all(points, &mut buf, limit, &mut history)
+    all(rt, points, &mut buf, limit, &mut history)
 }
 
-// Runs the text that the next `limit` bytes of standard input are, or those up to its end. How many of them are not read.
-pub fn run_text(limit: u64) -> u64
+// Runs the text that the next `limit` bytes of standard input are, or those up to its end. How many of them are not
+// read.
+pub fn run_text(rt: HostRuntime, limit: u64) -> u64
     ensures { result ≤ limit }
 {
     let names = propose_lines::names_line();
-    if !put(&names) {
+    if !put(rt, &names) {
         return limit;
     }
-    run(false, limit)
+    run(rt, false, limit)
 }
 
 // Runs a text as `run_text` does, and writes the points of its new trials in place of the answers.
-pub fn run_points(limit: u64) -> u64
+pub fn run_points(rt: HostRuntime, limit: u64) -> u64
     ensures { result ≤ limit }
 {
-    if !put(b"trial index improvement stored point\n") {
+    if !put(rt, b"trial index improvement stored point\n") {
         return limit;
     }
-    run(true, limit)
+    run(rt, true, limit)
 }
 
 // Reads that many bytes into buf, again and again. How many there were not.
-fn pass(buf: &mut [u8], count: u64) -> u64
+fn pass(rt: HostRuntime, buf: &mut [u8], count: u64) -> u64
     ensures { result ≤ count }
 {
     let mut left = count;
     while left > 0 {
         let end = asked(buf.len(), left);
-        let f = pieces::fill(&mut buf[0..end]);
+        let f = pieces::fill(rt, &mut buf[0..end]);
         if f.n == 0 {
             return left;
         }
@@ -258,9 +274,9 @@ fn pass(buf: &mut [u8], count: u64) -> u64
 }
 
 // Passes over that many bytes of standard input. How many there were not.
-pub fn skip(count: u64) -> u64
+pub fn skip(rt: HostRuntime, count: u64) -> u64
     ensures { result ≤ count }
 {
-    let mut buf = io::large_buffer();
-    pass(&mut buf, count)
+    let mut buf = [0u8; 65536];
+    pass(rt, &mut buf, count)
 }

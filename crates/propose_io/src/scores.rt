@@ -1,4 +1,5 @@
-// The points drawn for a new trial with a model: a line for each, with its expected improvement and whether the trial stored it.
+// The points drawn for a new trial with a model: a line for each, with its expected improvement and whether the trial
+// stored it.
 ghost use Rattle.std.specs.Prelude.{◌+◌, ◌≤◌, length};
 
 use gp_model::{Fit, Model};
@@ -12,12 +13,12 @@ fn put_word(line: &mut [u8], at: usize, w: u64, end: u8)
 {
     let digits = word_text::print(w);
     let to = at + 16;
-    bytes::copy(&digits, &mut line[at..to]);
+    line[at..to].copy_from_slice(&digits);
     line[to] = end;
 }
 
 // Writes the first n of these words as a line.
-fn put_words(words: [u64; 24], n: usize) -> bool
+fn put_words(rt: HostRuntime, words: [u64; 24], n: usize) -> bool
     requires { n ≤ 24 }
 {
     let mut line = [0u8; 408];
@@ -27,7 +28,7 @@ fn put_words(words: [u64; 24], n: usize) -> bool
         put_word(&mut line, 17 * i, words[i], end);
         i += 1;
     }
-    crate::put(&line[0..17 * n])
+    crate::put(rt, &line[0..17 * n])
 }
 
 // The words of a point's line. A point is zero past its columns.
@@ -66,7 +67,7 @@ fn score(m: Model, x: [f64; 20], d: usize) -> f64
 }
 
 // Every point that the search draws from this word on. The one stored is the first that equals the search's.
-fn put_points(trial: u64, m: Model, d: usize, candidates: u64, word: u64) -> bool
+fn put_points(rt: HostRuntime, trial: u64, m: Model, d: usize, candidates: u64, word: u64) -> bool
     requires { d ≤ 20 }
 {
     let searched = search::optimize_acquisition(m, d, candidates, word);
@@ -79,7 +80,7 @@ fn put_points(trial: u64, m: Model, d: usize, candidates: u64, word: u64) -> boo
         let x = drawn.point;
         let stored = !found && is_same(x, best);
         let words = point_words(trial, i, score(m, x, d), stored, x);
-        if !put_words(words, 4 + d) {
+        if !put_words(rt, words, 4 + d) {
             return false;
         }
         found = found || stored;
@@ -96,8 +97,9 @@ fn fit(x: [f64; 2000], y: [f64; 100], n: usize, d: usize, noise_variance: f64) -
     gp_model::fit_gp(&x[0..n * d], &y[0..n], d, noise_variance)
 }
 
-// The points of a new trial, where this sampler has a model for it. Whether all is written. (No training data have over 100 rows or 20 columns.)
-fn put_trial(s: Sampler, trial: u64, h: &[u64]) -> bool {
+// The points of a new trial, where this sampler has a model for it. Whether all is written. (No training data have over
+// 100 rows or 20 columns.)
+fn put_trial(rt: HostRuntime, s: Sampler, trial: u64, h: &[u64]) -> bool {
     let settings = s.settings;
     let dims = s.dimensions;
     let slots = settings.slots as usize;
@@ -115,7 +117,7 @@ fn put_trial(s: Sampler, trial: u64, h: &[u64]) -> bool {
         return true;
     }
     let m = f.model;
-    put_points(trial, m, d, settings.n_candidates, s.word)
+    put_points(rt, trial, m, d, settings.n_candidates, s.word)
 }
 
 // Whether a trial is new: discovery had ended before the call, and the call gave the trial its place.
@@ -133,7 +135,7 @@ fn trial_of(bytes: [u8; 68]) -> Parsed {
 }
 
 // The points of the trial that a step made new with a model; nothing for any other step. Whether all is written.
-pub(crate) fn put_step(before: Reader, t: Step, history: &[u64]) -> bool {
+pub(crate) fn put_step(rt: HostRuntime, before: Reader, t: Step, history: &[u64]) -> bool {
     let bytes = t.bytes;
     let Parsed::Word(trial) = trial_of(bytes) else {
         return true;
@@ -148,5 +150,5 @@ pub(crate) fn put_step(before: Reader, t: Step, history: &[u64]) -> bool {
     if n > history.len() {
         return true;
     }
-    put_trial(s, trial, &history[0..n])
+    put_trial(rt, s, trial, &history[0..n])
 }
