@@ -49,7 +49,7 @@ pub(crate) fn put(rt: HostRuntime, bytes: &[u8]) -> bool {
 }
 
 // Writes the first `len` of these bytes.
-fn put_first(rt: HostRuntime, bytes: [u8; 68], len: usize) -> bool {
+fn put_first(rt: HostRuntime, bytes: &[u8; 68], len: usize) -> bool {
     if len > 68 {
         return false;
     }
@@ -58,15 +58,12 @@ fn put_first(rt: HostRuntime, bytes: [u8; 68], len: usize) -> bool {
 
 // Writes the bytes of a step, or its points; a step that ends the run has its bytes. Whether to read on: not after a
 // failure, nor where the run has ended.
-fn told(rt: HostRuntime, points: bool, before: Reader, t: Step, history: &[u64]) -> bool {
-    let reader = t.reader;
-    let stage = reader.stage;
-    let ended = is_ended(stage);
+fn told(rt: HostRuntime, points: bool, before: &Reader, t: &Step, history: &[u64]) -> bool {
+    let ended = is_ended(t.reader.stage);
     if points && !ended {
         return scores::put_step(rt, before, t, history);
     }
-    let bytes = t.bytes;
-    put_first(rt, bytes, t.len) && !ended
+    put_first(rt, &t.bytes, t.len) && !ended
 }
 
 // Every whole line of the first `end` bytes.
@@ -92,11 +89,11 @@ fn lines(
             };
         };
         let e = used + len;
-        let before = now;
-        let t = propose_text::read_line(before, &buf[used..e], history);
+        let t = propose_text::read_line(now, &buf[used..e], history);
+        let more = told(rt, points, &now, &t, history);
         now = t.reader;
         used = e + 1;
-        if !told(rt, points, before, t, history) {
+        if !more {
             return Done {
                 reader: now,
                 used,
@@ -149,7 +146,7 @@ fn taken(
     }
     if have > propose_text::LONGEST {
         let t = propose_text::read_line(after, &buf[used..full], history);
-        told(rt, points, after, t, history);
+        told(rt, points, &after, &t, history);
         return Held {
             reader: after,
             have: 0,
@@ -186,13 +183,8 @@ fn turn(
         return taken(rt, points, reader, buf, have + n, left - n as u64, history);
     }
     if !f.failed {
-        told(
-            rt,
-            points,
-            reader,
-            propose_text::finish(reader, &buf[0..have]),
-            history,
-        );
+        let t = propose_text::finish(reader, &buf[0..have]);
+        told(rt, points, &reader, &t, history);
     }
     Held {
         reader,
