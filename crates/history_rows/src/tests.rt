@@ -133,7 +133,8 @@ fn older(n: usize, h: &[u64]) -> usize
 {
     let w = 3 + 8 * n;
     let rows = h.len() / w;
-    if rows <= 100 { 0 } else { (rows - 100) * w }
+    let few = rows <= 100;
+    if few { 0 } else { (rows - 100) * w }
 }
 
 // How many recent rows it has.

@@ -52,8 +52,10 @@ fn posterior<'a, 'b>(
     let mean = dot(&k, alpha, n);
     let solved = factor::solve(cholesky, &k, n);
     let v = solved.x;
-    let var = 1.0 - dot(&k, &v, n);
-    let std = root::sqrt(arith::positive_part(var));
+    let explained = dot(&k, &v, n);
+    let var = 1.0 - explained;
+    let held = arith::positive_part(var);
+    let std = root::sqrt(held);
     Posterior { mean, std }
 }
 

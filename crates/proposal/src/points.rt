@@ -29,7 +29,8 @@ pub(crate) fn point_for(t: Training, noise_variance: f64, n_candidates: u64, wor
     let rows = t.x;
     let values = t.y;
     let fit = gp_model::fit_gp(&rows[0..n * d], &values[0..n], d, noise_variance);
-    if fit.number != 0 {
+    let refused = fit.number != 0;
+    if refused {
         return unit_point(d, word);
     }
     let model = fit.model;

@@ -27,7 +27,8 @@ fn active(s: Sampler, d: Distribution, trial: u64, h: &[u64]) -> Sampled
     let places = s.places;
     let found = sampler_state::find(places, trial);
     let i = found.spot;
-    if i >= 32 {
+    let full = i >= 32;
+    if full {
         return states::refused(s, 9);
     }
     let settings = s.settings;

@@ -17,18 +17,18 @@ overflow_mul-result c =
     let t = div-mul-le_self (length a.h.now) w in
     omega arith
 
-pub returns-then-rows-le100 : goal.returns-then-rows-le100
+pub returns-then-few : goal.returns-then-few
 unfolding recent_count row_count
-returns-then-rows-le100 c =
+returns-then-few c =
     let a = c.args in
     let rows = length a.h.now / width_of a.n in
-    let t : rows ≤ 100 = omega (arith, c.if-rows-le100.true) in
+    let t : rows ≤ 100 = omega (arith, c.if-few.true) in
     rw (le-leb rows 100 t, sub_self rows, zero-mul)
 
-pub returns-else-rows-le100 : goal.returns-else-rows-le100
+pub returns-else-few : goal.returns-else-few
 unfolding recent_count row_count
-returns-else-rows-le100 c =
+returns-else-few c =
     let a = c.args in
     let rows = length a.h.now / width_of a.n in
-    let t : 100 < rows = omega (arith, c.if-rows-le100.false) in
+    let t : 100 < rows = omega (arith, c.if-few.false) in
     rw (lt-leb rows 100 t)

@@ -15,8 +15,8 @@ use Rattle.prediction.proofs.predicting.posterior.Goals as goal
 vector-length : (x : List Float) (n d : ℕ) (l p : List Float) → n ≤ 100 → length (padded 100 (kernel_vector_of x n d l p)) ≡ 100
 vector-length x n d l p h = padded-length 100 (kernel_vector_of x n d l p) (rw (grown-length (λ xs i. similarity_of p (row_of x d i) l) n) h)
 
-pub dot-var-requires : goal.dot-var-requires
-dot-var-requires c =
+pub dot-explained-requires : goal.dot-explained-requires
+dot-explained-requires c =
     (rw (ap length c.kernel_vector-k.ensures ∙ vector-length c.args.x_train.now c.args.n c.args.d (take (c.args.d - 0) (drop 0 c.args.lengthscales.now)) c.args.p.now c.requires.0) c.requires.0, rw (c.solve-solved.ensures, solve-length) c.requires.0)
 
 pub returns : goal.returns
@@ -24,4 +24,4 @@ unfolding posterior_mean_of posterior_std_of of_bits of_int
 returns c =
     let a = c.args in
     let e : a.d - 0 ≡ a.d = omega arith in
-    rw (c.sqrt-std.ensures, c.positive_part.ensures, c.dot-var.ensures, c.solve-solved.ensures, c.dot-mean.ensures, c.kernel_vector-k.ensures, e, grown-padded-take 100 (λ xs i. similarity_of a.p.now (row_of a.x_train.now a.d i) (take a.d a.lengthscales.now)) a.n)
+    rw (c.sqrt-std.ensures, c.positive_part-held.ensures, c.dot-explained.ensures, c.solve-solved.ensures, c.dot-mean.ensures, c.kernel_vector-k.ensures, e, grown-padded-take 100 (λ xs i. similarity_of a.p.now (row_of a.x_train.now a.d i) (take a.d a.lengthscales.now)) a.n)

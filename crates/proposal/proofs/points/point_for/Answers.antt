@@ -19,11 +19,11 @@ slice_bounds-fit_gp-end c =
     let l = mul-le-mul c.requires.0 c.requires.1 in
     omega arith
 
-pub returns-then-fit-ne0 : goal.returns-then-fit-ne0
-returns-then-fit-ne0 c =
+pub returns-then-refused : goal.returns-then-refused
+returns-then-refused c =
     let a = c.args in
     let e = c.fit_gp-fit.ensures ∙ fit-lent a.t a.noise_variance in
-    let t : eqb (fit_for a.t a.noise_variance).number 0 ≡ false = rw (sym e) (ne_eqb c.fit_gp-fit.result.number 0 c.if-fit-ne0.true) in
+    let t : eqb (fit_for a.t a.noise_variance).number 0 ≡ false = rw (sym e) (ne_eqb c.fit_gp-fit.result.number 0 c.if-refused.true) in
     c.unit_point.ensures ∙ sym (point-is a.t a.noise_variance a.n_candidates a.word false t)
 
 pub overflow_mul-result : goal.overflow_mul-result
@@ -35,5 +35,5 @@ pub returns : goal.returns
 returns c =
     let a = c.args in
     let e = c.fit_gp-fit.ensures ∙ fit-lent a.t a.noise_variance in
-    let t : eqb (fit_for a.t a.noise_variance).number 0 ≡ true = rw (sym e) (eq-eqb c.fit_gp-fit.result.number 0 c.if-fit-ne0.false) in
+    let t : eqb (fit_for a.t a.noise_variance).number 0 ≡ true = rw (sym e) (eq-eqb c.fit_gp-fit.result.number 0 c.if-refused.false) in
     sym (point-is a.t a.noise_variance a.n_candidates a.word true t ∙ rw (sym e, sym c.optimize_acquisition-s.ensures.is))

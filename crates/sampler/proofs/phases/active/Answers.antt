@@ -16,13 +16,13 @@ place c = ap (λ (x : Found). x.place) c.find-found.ensures
 spot : (c : After-find-found) → let a = c.args in c.find-found.result.spot ≡ spot_for a.s.places a.trial
 spot c = ap (λ (x : Found). x.spot) c.find-found.ensures
 
-pub returns-then-i-ge32 : goal.returns-then-i-ge32
+pub returns-then-full : goal.returns-then-full
 unfolding active_of
-returns-then-i-ge32 c =
+returns-then-full c =
     let full : 32 ≤ c.find-found.result.spot = omega arith in
-    rw (c.refused.ensures, sym (spot (goal.at.returns-then-i-ge32 c).After-find-found), le-ltb _ 32 full)
+    rw (c.refused.ensures, sym (spot (goal.at.returns-then-full c).After-find-found), le-ltb _ 32 full)
 
 pub returns : goal.returns
 unfolding active_of
 returns c =
-    rw (c.put.ensures, c.serving-r.ensures, sym (spot (goal.at.returns c).After-find-found), sym (place (goal.at.returns c).After-find-found), lt-ltb _ 32 c.if-i-ge32.false)
+    rw (c.put.ensures, c.serving-r.ensures, sym (spot (goal.at.returns c).After-find-found), sym (place (goal.at.returns c).After-find-found), lt-ltb _ 32 c.if-full.false)
