@@ -1,28 +1,23 @@
--- What each case of an answer says: document 01's number, 0 where the call is accepted, and the word of its value. Definitions only.
-use Rattle.std.specs.Prelude.{ℕ, Bool, true, false, to_bits, Float}
+-- What an answer says beside its number (refusal/specs/Numbers): the word of its value, and its value. Definitions only.
+use Rattle.refusal.specs.declared.Refusal.{Refusal}
+use Rattle.std.specs.Prelude.{ℕ, Bool, true, false, to_bits, Float, Result, Ok, Err}
 use Rattle.std.specs.Float.{nan, binary64}
-use Rattle.arith.specs.declared.Outcome.{Outcome}
-use Rattle.arith.specs.declared.Outcome.TheVariants.{Value, Refused}
 
-abbrev pub number_of : Outcome → ℕ
-number_of (Value x) = 0
-number_of (Refused n) = n
-
-abbrev pub word_of : Outcome → ℕ
-word_of (Value x) = to_bits binary64 x
-word_of (Refused n) = 0
+abbrev pub word_of : Result Float Refusal → ℕ
+word_of (Ok x) = to_bits binary64 x
+word_of (Err r) = 0
 
 -- the value, a NaN where there is none: for answers that a theorem shows to be accepted
-abbrev pub value_of : Outcome → Float
-value_of (Value x) = x
-value_of (Refused n) = nan
+abbrev pub value_of : Result Float Refusal → Float
+value_of (Ok x) = x
+value_of (Err r) = nan
 
 -- what is made of a value; a refusal is passed on
-abbrev pub made : (Float → Float) → Outcome → Outcome
-made f (Value x) = Value (f x)
-made f (Refused n) = Refused n
+abbrev pub made : (Float → Float) → Result Float Refusal → Result Float Refusal
+made f (Ok x) = Ok (f x)
+made f (Err r) = Err r
 
 -- the first answer where the test holds, else the second
-abbrev pub pick : Bool → Outcome → Outcome → Outcome
+abbrev pub pick : Bool → Result Float Refusal → Result Float Refusal → Result Float Refusal
 pick true a b = a
 pick false a b = b

@@ -1,9 +1,9 @@
 -- "Sum and dot: left to right from +0." Definitions only.
-use Rattle.std.specs.Prelude.{ℕ, zero, suc, List, length, get_or, ◌==◌, from_bits, slice_index_or, Float}
+use Rattle.refusal.specs.declared.Refusal.TheVariants.{OutOfDomain}
+use Rattle.refusal.specs.declared.Refusal.{Refusal}
+use Rattle.std.specs.Prelude.{ℕ, zero, suc, List, length, get_or, ◌==◌, from_bits, slice_index_or, Float, Result, Ok, Err}
 use Rattle.std.specs.Float.{nan, binary64}
 use Rattle.std.specs.Float.Ieee.{add, mul}
-use Rattle.arith.specs.declared.Outcome.{Outcome}
-use Rattle.arith.specs.declared.Outcome.TheVariants.{Value, Refused}
 use Rattle.arith.specs.Outcome.{pick}
 
 -- t 0 + t 1 + .. + t (n - 1), from the left, from +0
@@ -19,5 +19,5 @@ abbrev pub products : List Float → List Float → Float
 products xs ys = sum_over (length xs) (λ i. mul binary64 (slice_index_or xs i nan) (slice_index_or ys i nan))
 
 -- "lists of unequal length .. are 11"
-abbrev pub dot_of : List Float → List Float → Outcome
-dot_of xs ys = pick (length xs == length ys) (Value (products xs ys)) (Refused 11)
+abbrev pub dot_of : List Float → List Float → Result Float Refusal
+dot_of xs ys = pick (length xs == length ys) (Ok (products xs ys)) (Err OutOfDomain)

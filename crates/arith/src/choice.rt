@@ -42,10 +42,8 @@ pub fn least(xs: &[f64]) -> f64
     ensures { result ≡ least_of xs.now }
 {
     let mut best = 1.0 / 0.0;
-    let mut i = 0;
-    while i < xs.len() {
-        best = lesser(best, xs[i]);
-        i += 1;
+    for x in xs {
+        best = lesser(best, *x);
     }
     best
 }

@@ -2,17 +2,15 @@
 ghost use Rattle.std.specs.Prelude.{◌≡◌, length};
 ghost use Rattle.arith.specs.Sums.{sum_of, dot_of, products};
 
-use crate::Outcome;
+use refusal::Refusal;
 
 // The sum of a list.
 pub fn sum(xs: &[f64]) -> f64
     ensures { result ≡ sum_of xs.now }
 {
     let mut total = 0.0;
-    let mut i = 0;
-    while i < xs.len() {
-        total = total + xs[i];
-        i += 1;
+    for x in xs {
+        total = total + *x;
     }
     total
 }
@@ -23,20 +21,18 @@ fn sum_of_products(xs: &[f64], ys: &[f64]) -> f64
     ensures { result ≡ products xs.now ys.now }
 {
     let mut total = 0.0;
-    let mut i = 0;
-    while i < xs.len() {
+    for i in 0..xs.len() {
         total = total + xs[i] * ys[i];
-        i += 1;
     }
     total
 }
 
 // The same of any two lists: 11 where their lengths differ.
-pub fn dot(xs: &[f64], ys: &[f64]) -> Outcome
+pub fn dot(xs: &[f64], ys: &[f64]) -> Result<f64, Refusal>
     ensures { result ≡ dot_of xs.now ys.now }
 {
     if xs.len() != ys.len() {
-        return Outcome::Refused(11);
+        return Err(Refusal::OutOfDomain);
     }
-    Outcome::Value(sum_of_products(xs, ys))
+    Ok(sum_of_products(xs, ys))
 }

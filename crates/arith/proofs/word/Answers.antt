@@ -3,5 +3,5 @@ use Rattle.std.proofs.Common.{sym, ap, ◌∙◌}
 use Rattle.arith.specs.Outcome.{word_of}
 use Rattle.arith.proofs.word.Goals as goal
 
-pub returns-in-Value : goal.returns-in-Value
-returns-in-Value c = c.word_of_float.ensures ∙ sym (ap word_of c.in-Value.is)
+pub returns-in-Ok : goal.returns-in-Ok
+returns-in-Ok c = c.word_of_float.ensures ∙ sym (ap word_of c.in-Ok.is)

@@ -4,13 +4,13 @@ use lib.Ieee.{div, of_bits}
 use Rattle.arith.specs.Choice.{least_of_first}
 use Rattle.arith.proofs.choice.least.Goals as goal
 
-pub loop-i-init : goal.loop-i-init
+pub loop-x-init : goal.loop-x-init
 unfolding least_of_first div of_bits
-loop-i-init c = (omega arith, refl)
+loop-x-init c = (omega arith, refl)
 
-pub loop-i-preserved : goal.loop-i-preserved
+pub loop-x-preserved : goal.loop-x-preserved
 unfolding least_of_first
-loop-i-preserved c = (search rules, rw (c.lesser-best.ensures, c.loop-i.invariant.1, add-one))
+loop-x-preserved c = (search rules, rw (c.lesser-best.ensures, c.loop-x.invariant.1, add-one))
 
 pub returns : goal.returns
-returns c = let e : c.loop-i.i ≡ length c.args.xs.now = omega arith in cc
+returns c = let e : c.loop-x.x-index ≡ length c.args.xs.now = omega arith in cc

@@ -3,13 +3,13 @@ use Rattle.std.proofs.Common.{◌≡◌, length, refl, add-one, arith, rules}
 use Rattle.arith.specs.Sums.{sum_over}
 use Rattle.arith.proofs.sums.sum.Goals as goal
 
-pub loop-i-init : goal.loop-i-init
+pub loop-x-init : goal.loop-x-init
 unfolding sum_over
-loop-i-init c = (omega arith, refl)
+loop-x-init c = (omega arith, refl)
 
-pub loop-i-preserved : goal.loop-i-preserved
+pub loop-x-preserved : goal.loop-x-preserved
 unfolding sum_over
-loop-i-preserved c = (search rules, rw (c.loop-i.invariant.1, add-one))
+loop-x-preserved c = (search rules, rw (c.loop-x.invariant.1, add-one))
 
 pub returns : goal.returns
-returns c = let e : c.loop-i.i ≡ length c.args.xs.now = omega arith in cc
+returns c = let e : c.loop-x.x-index ≡ length c.args.xs.now = omega arith in cc
