@@ -1,4 +1,6 @@
 -- exp is never out of its domain here: its argument is a NaN or not above 0. So each definition answers a value, and an improvement is never a NaN nor below 0. Assumes nothing.
+use Rattle.refusal.specs.declared.Refusal.{Refusal}
+use Rattle.std.specs.Prelude.{Result, Ok}
 use mathlib.Core.Path.{◌≡◌, refl, sym, ap, ◌∙◌, subst}
 use mathlib.Core.Logic.{◌⊎◌, inl, inr}
 use Prim.Native.Nat.{ℕ, ◌*◌}
@@ -8,8 +10,6 @@ use lib.Dec.{eqb}
 use lib.IntN.{ℤ, pos, negsuc}
 use lib.Ieee.{Float, nan, inf, fin, binary64, up, down, unlike, round, add, sub, mul, div, lt, le, of_bits, of_int}
 use lib.Ieee.Fits.{down_pos}
-use Rattle.arith.specs.declared.Outcome.{Outcome}
-use Rattle.arith.specs.declared.Outcome.TheVariants.{Value}
 use Rattle.arith.specs.Bounds.{abs, real, negative, Sign}
 use Rattle.arith.specs.Choice.{positive_part}
 use Rattle.exponential.specs.Exp.{exp_of}
@@ -71,10 +71,10 @@ cdf-accepted x =
 -- ---- an improvement
 
 -- the positive part of some float
-abbrev Improves : Outcome → Type 0
-Improves o = (w : Float) × (o ≡ Value (positive_part w))
+abbrev Improves : Result Float Refusal → Type 0
+Improves o = (w : Float) × (o ≡ Ok (positive_part w))
 
-both-improves : (f : Float → Float → Float) (o p : Outcome) → Accepted o → Accepted p → Improves (both (λ a b. positive_part (f a b)) o p)
+both-improves : (f : Float → Float → Float) (o p : Result Float Refusal) → Accepted o → Accepted p → Improves (both (λ a b. positive_part (f a b)) o p)
 both-improves f o p a c = (f a.0 c.0, ap (λ y. both (λ a b. positive_part (f a b)) y p) a.1 ∙ ap (made (λ b. positive_part (f a.0 b))) c.1)
 
 improves : (mean std best : Float) → Improves (expected_improvement_of mean std best)
@@ -84,10 +84,10 @@ improves mean std best = go (lt std (of_bits binary64 0x3d719799812dea11))
     d : Float
     d = sub binary64 best mean
 
-    rest : Outcome
+    rest : Result Float Refusal
     rest = both (λ p q. positive_part (add binary64 (mul binary64 d p) (mul binary64 std q))) (norm_cdf_of (div binary64 d std)) (norm_pdf_of (div binary64 d std))
 
-    go : (b : Bool) → Improves (pick b (Value (positive_part d)) rest)
+    go : (b : Bool) → Improves (pick b (Ok (positive_part d)) rest)
     go true = (d, refl)
     go false = both-improves (λ p q. add binary64 (mul binary64 d p) (mul binary64 std q)) _ _ (cdf-accepted (div binary64 d std)) (pdf-accepted (div binary64 d std))
 

@@ -1,10 +1,11 @@
 -- The definitions at single points, computed; the words are what Rust prints for the same formulas with its own exp. Assumes nothing.
+use Rattle.std.specs.Prelude.{Ok, Err}
 use mathlib.Core.Path.{◌≡◌, refl}
+use Rattle.refusal.specs.declared.Refusal.TheVariants.{NoRows, Pivot}
 use lib.IntN.{pos, negsuc}
 use lib.Ieee.{binary64, of_bits, to_bits, round, add, sub, mul, div, neg, lt, le, is_nan, of_int, to_signed}
 use Rattle.exponential.specs.Exp.{exp_of, horner_of, reduced_of, scaled_of, whole_of}
 use Rattle.arith.specs.Rounding.{nearest_of, round_of}
-use Rattle.arith.specs.declared.Outcome.TheVariants.{Value, Refused}
 use Rattle.arith.specs.Outcome.{word_of}
 use Rattle.acquisition.specs.Normal.{one, norm_pdf_of, polynomial_of, upper_of, norm_cdf_of}
 use Rattle.acquisition.specs.Improvement.{both, expected_improvement_of}
@@ -40,9 +41,9 @@ abbrev Small : Type 0
 Small =
     (word_of (expected_improvement_of (of_bits binary64 0) (of_bits binary64 0x3d719799812dea11) (of_bits binary64 0)) ≡ 0x3d5c12b489644ecd)
     × (word_of (expected_improvement_of (of_bits binary64 0) (of_bits binary64 0x3d719799812dea10) (of_bits binary64 0)) ≡ 0)
-    × (both (add binary64) (Value one) (Value one) ≡ Value (of_int binary64 (pos 2)))
-    × (both (add binary64) (Refused 1) (Refused 2) ≡ Refused 1)
-    × (both (add binary64) (Value one) (Refused 2) ≡ Refused 2)
+    × (both (add binary64) (Ok one) (Ok one) ≡ Ok (of_int binary64 (pos 2)))
+    × (both (add binary64) (Err NoRows) (Err Pivot) ≡ Err NoRows)
+    × (both (add binary64) (Ok one) (Err Pivot) ≡ Err Pivot)
 
 small : Small
 unfolding norm_pdf_of polynomial_of upper_of norm_cdf_of expected_improvement_of exp_of horner_of reduced_of scaled_of whole_of nearest_of round_of of_bits to_bits round add sub mul div neg lt le is_nan of_int to_signed

@@ -2,21 +2,16 @@
 #![tactic(auto)]
 
 ghost use Rattle.std.specs.Prelude.{◌≡◌};
-ghost use Rattle.arith.specs.declared.Outcome.TheVariants.{Value};
+ghost use Rattle.std.specs.Prelude.{Ok};
 ghost use Rattle.acquisition.specs.Accepts.{ImprovementAccepts};
 ghost use Rattle.acquisition.specs.Normal.{norm_pdf_of, polynomial_of, upper_of, norm_cdf_of};
 ghost use Rattle.acquisition.specs.Improvement.{expected_improvement_of};
 
-use arith::Outcome;
-
 // The standard normal density.
 pub fn norm_pdf(x: f64) -> f64
-    ensures { Value result ≡ norm_pdf_of x }
+    ensures { Ok result ≡ norm_pdf_of x }
 {
-    match exponential::exp(-0.5 * x * x) {
-        Outcome::Value(e) => 0.3989422804014327 * e,
-        Outcome::Refused(_) => 0.0,
-    }
+    0.3989422804014327 * exponential::exp(-0.5 * x * x).unwrap()
 }
 
 // The polynomial of 26.2.17 at t.
@@ -32,14 +27,14 @@ fn polynomial(t: f64) -> f64
 
 // 26.2.17 at an x that is not below 0.
 fn upper(x: f64) -> f64
-    ensures { Value result ≡ upper_of x }
+    ensures { Ok result ≡ upper_of x }
 {
     1.0 - norm_pdf(x) * polynomial(1.0 / (1.0 + 0.2316419 * x))
 }
 
 // The standard normal distribution function: 0 below -8 and 1 above 8.
 pub fn norm_cdf(x: f64) -> f64
-    ensures { Value result ≡ norm_cdf_of x }
+    ensures { Ok result ≡ norm_cdf_of x }
 {
     if x < -8.0 {
         return 0.0;
@@ -53,7 +48,7 @@ pub fn norm_cdf(x: f64) -> f64
 
 // The expected improvement over the best value, at a point with this mean and deviation.
 pub fn expected_improvement(mean: f64, std: f64, f_best: f64) -> f64
-    ensures { Value result ≡ expected_improvement_of mean std f_best }
+    ensures { Ok result ≡ expected_improvement_of mean std f_best }
 {
     if std < 1e-12 {
         return arith::positive_part(f_best - mean);

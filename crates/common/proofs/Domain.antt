@@ -1,4 +1,6 @@
 -- Nothing saturates where a value is decoded or drawn: the steps of an int fit, for each value that decoding accepts and each that a draw on log scale gives. A step is from 2 ^ a to 2 ^ (a + 1), so a quotient by it is at most 2 ^ (58 - a) in size, a whole number, and stays so when rounded.
+use Rattle.refusal.specs.declared.Refusal.{Refusal}
+use Rattle.std.specs.Prelude.{Result, Ok, Err, Some}
 use mathlib.Core.Path.{◌≡◌, refl, sym, ap, ◌∙◌, subst}
 use mathlib.Core.Logic.{inl, inr}
 use Prim.Native.Nat.{ℕ, zero, suc, ◌+◌, ◌-◌, ◌*◌, ◌/◌, ◌^◌, ◌≤◌, ◌<◌, min}
@@ -17,8 +19,6 @@ use lib.Ieee.Order.{round_mono}
 use lib.Ieee.Scale.{round_same}
 use mir.Syntax.{w64}
 use mir.Val.{SFits}
-use Rattle.arith.specs.declared.Outcome.{Outcome}
-use Rattle.arith.specs.declared.Outcome.TheVariants.{Value, Refused}
 use Rattle.arith.specs.Bounds.{abs, Within, Between}
 use Rattle.arith.specs.Rounding.{nearest_of, round_of}
 use Rattle.arith.proofs.Tests.{taken, either}
@@ -35,8 +35,7 @@ use Rattle.distribution.specs.declared.IntDistribution.{IntDistribution}
 use Rattle.distribution.specs.declared.Distribution.{Distribution}
 use Rattle.distribution.specs.Shape.{power, shape_of, int_shape, continuous_of}
 use Rattle.distribution.proofs.Facts.{Bounded, IntRules, int-rules}
-use Rattle.encoding.specs.declared.InternalBounds.{InternalBounds}
-use Rattle.encoding.specs.Bounds.{ends_of, bounds_of}
+use Rattle.encoding.specs.Bounds.{InternalBounds, ends_of, bounds_of}
 use Rattle.common.specs.Decode.{inside, one, unscale_of}
 use Rattle.common.specs.DecodeParts.{Decodable}
 use Rattle.common.specs.Grid.{round_z, int_grid}
@@ -193,7 +192,7 @@ int-grid d v f = elim (either d.stepped) [
 -- ---- decoding
 
 -- from lo - 1 to hi + 1, for ends of at most b in size
-beyond : (b c lo hi x : Float) → T (bound b && bound one && le (add binary64 b one) c) → Within b lo → Within b hi → T (inside (InternalBounds.Ends lo hi) x) → Within c x
+beyond : (b c lo hi x : Float) → T (bound b && bound one && le (add binary64 b one) c) → Within b lo → Within b hi → T (inside (Ok (Some (lo, hi))) x) → Within c x
 beyond b c lo hi x t p q i =
     let least = sub binary64 lo one in
     let most = add binary64 hi one in
@@ -204,7 +203,7 @@ beyond b c lo hi x t p q i =
 abbrev accepted : Bool → Float
 accepted log = cond log (of_bits binary64 0x40430ccccccccccd) (power (pos 57))
 
-inside-within : (log : Bool) (lo hi x : Float) → EndRules log lo hi → T (inside (InternalBounds.Ends lo hi) x) → Within (accepted log) x
+inside-within : (log : Bool) (lo hi x : Float) → EndRules log lo hi → T (inside (Ok (Some (lo, hi))) x) → Within (accepted log) x
 inside-within true lo hi x r i = beyond (limit true) (accepted true) lo hi x (unfold of_int of_bits add le in tt) r.low r.high i
 inside-within false lo hi x r i = beyond (limit false) (accepted false) lo hi x (unfold of_int add le in tt) r.low r.high i
 
@@ -212,7 +211,7 @@ inside-within false lo hi x r i = beyond (limit false) (accepted false) lo hi x 
 pub positive-within : (a b c v : Float) → T (le (neg c) a && le b c) → Between a b v → Within c v
 positive-within a b c v t r = within c v (order.le_trans v b c r.1 (and_r (le (neg c) a) (le b c) t)) (order.le_trans (neg c) a v (and_l (le (neg c) a) (le b c) t) r.0)
 
-unscaled-within : (log : Bool) (x v : Float) → Within (accepted log) x → unscale_of log x ≡ Value v → Within (power (pos 57)) v
+unscaled-within : (log : Bool) (x v : Float) → Within (accepted log) x → unscale_of log x ≡ Ok v → Within (power (pos 57)) v
 unscaled-within true x v w e =
     let r = exp-decoded x w in
     let q : r.0 ≡ v = cc r.1 in
@@ -226,14 +225,14 @@ decodable x (Distribution.Int d) t i = go (unscale_of d.log_scale x) refl
     r : HasEnds d.log_scale (bounds_of (Distribution.Int d))
     r = bounds (Distribution.Int d) tt tt t
 
-    go : (o : Outcome) → unscale_of d.log_scale x ≡ o → OutcomeFits d o
-    go (Value v) e = steps-fit d v (unfold shape_of in t) (unscaled-within d.log_scale x v (inside-within d.log_scale r.lo r.hi x r.rules (subst (λ (b : InternalBounds). T (inside b x)) r.is i)) e)
-    go (Refused n) e = tt
+    go : (o : Result Float Refusal) → unscale_of d.log_scale x ≡ o → OutcomeFits d o
+    go (Ok v) e = steps-fit d v (unfold shape_of in t) (unscaled-within d.log_scale x v (inside-within d.log_scale r.lo r.hi x r.rules (subst (λ (b : InternalBounds). T (inside b x)) r.is i)) e)
+    go (Err n) e = tt
 decodable x (Distribution.Categorical d) t i = tt
 
 -- ---- a unit float scaled to the ends
 
-pub linear-range : (lo hi u : Float) → EndRules false lo hi → Between (of_bits binary64 0) one u → T (inside (InternalBounds.Ends lo hi) (range_of lo hi u)) × Within (power (pos 53)) (range_of lo hi u)
+pub linear-range : (lo hi u : Float) → EndRules false lo hi → Between (of_bits binary64 0) one u → T (inside (Ok (Some (lo, hi))) (range_of lo hi u)) × Within (power (pos 53)) (range_of lo hi u)
 linear-range lo hi u r b =
     let x = range_of lo hi u in
     let k = back-linear lo hi u r.low r.high r.order b in
@@ -242,9 +241,9 @@ linear-range lo hi u r b =
 
 -- decoding accepts it, and its value obeys the Taken rule
 pub record Unscaled (log : Bool) (lo hi u : Float) : Type 0 where
-  pub accepted : T (inside (InternalBounds.Ends lo hi) (range_of lo hi u))
+  pub accepted : T (inside (Ok (Some (lo, hi))) (range_of lo hi u))
   pub value : Float
-  pub is : unscale_of log (range_of lo hi u) ≡ Value value
+  pub is : unscale_of log (range_of lo hi u) ≡ Ok value
   pub size : Within (power (pos 53)) value
   pub least : T log → T (le (power (negsuc 52)) value)
 
@@ -268,7 +267,7 @@ unscaled false lo hi u r b =
 
 pub record LogDrawn (d : Distribution) (u : Float) : Type 0 where
   pub value : Float
-  pub is : log_range (ends_of d) u ≡ Value value
+  pub is : log_range (ends_of d) u ≡ Ok value
   pub size : Within (power (pos 53)) value
   pub least : T (le (power (negsuc 52)) value)
 

@@ -1,4 +1,5 @@
 -- What the codings give, over their definitions. A random value is accepted, takes one word and obeys the Taken rule; a unit float scaled to the ends decodes to a value from low to high; a taken value is encoded, and its normalised form is at most 1e32 in size.
+use Rattle.std.specs.Prelude.{Ok, Some}
 use mathlib.Core.Path.{◌≡◌, refl, ap, ◌∙◌, subst}
 use Prim.Native.Nat.{ℕ, ◌+◌, ◌-◌, ◌*◌, ◌/◌, ◌^◌, ◌≤◌, ◌<◌}
 use native.Mathlib.Nat.{le_trans, mul-le-mul_right, div-mul-le_self, div-le_self, mod-eq_of_lt}
@@ -12,7 +13,6 @@ use lib.Ieee.Bits.{is_true}
 use lib.Ieee.Fits.{and_i}
 use lib.Ieee.Scale.{finite}
 use Rattle.arith.proofs.Tests.{taken as holds, untaken, by-test}
-use Rattle.arith.specs.declared.Outcome.TheVariants.{Value}
 use Rattle.arith.specs.Bounds.{abs, Within, Between}
 use Rattle.arith.proofs.Order as order
 use Rattle.arith.proofs.Within.{bound, sub_in, div-in, widen, within-finite}
@@ -29,9 +29,8 @@ use Rattle.distribution.specs.declared.ParamValue.{ParamValue}
 use Rattle.distribution.specs.Shape.{power, float_shape, int_shape, shape_of, continuous_of}
 use Rattle.distribution.specs.Taken.{taken_of}
 use Rattle.distribution.proofs.Facts.{float-rules, int-rules, categorical-rules, float-taken, int-taken}
-use Rattle.encoding.specs.declared.InternalBounds.{InternalBounds}
+use Rattle.encoding.specs.Bounds.{InternalBounds, scale_of, ends_of, bounds_of}
 use Rattle.common.specs.declared.RandomDraw.{RandomDraw}
-use Rattle.encoding.specs.Bounds.{scale_of, ends_of, bounds_of}
 use Rattle.common.specs.Decode.{one, inside, float_of, int_of, decoded_of, from_internal_of}
 use Rattle.encoding.specs.Encode.{to_internal_of}
 use Rattle.common.specs.Grid.{clamp_of, float_grid, clamp_z, int_grid}
@@ -77,11 +76,11 @@ pub record Decoded (x : Float) (d : Distribution) : Type 0 where
   pub taken : T (taken_of d value)
   pub range : Inside d value
 
-from-internal : (x : Float) (d : Distribution) (lo hi : Float) → bounds_of d ≡ InternalBounds.Ends lo hi → T (inside (InternalBounds.Ends lo hi) x) → from_internal_of x d ≡ decoded_of x d
+from-internal : (x : Float) (d : Distribution) (lo hi : Float) → bounds_of d ≡ Ok (Some (lo, hi)) → T (inside (Ok (Some (lo, hi))) x) → from_internal_of x d ≡ decoded_of x d
 unfolding from_internal_of
-from-internal x d lo hi e i = rw (e, is_true (inside (InternalBounds.Ends lo hi) x) i)
+from-internal x d lo hi e i = rw (e, is_true (inside (Ok (Some (lo, hi))) x) i)
 
-pub decode-accepted : (d : Distribution) → FloatsFit d → T (shape_of d) → (lo hi : Float) → bounds_of d ≡ InternalBounds.Ends lo hi → (u : Float) → Between (of_bits binary64 0) one u → Decoded (range_of lo hi u) d
+pub decode-accepted : (d : Distribution) → FloatsFit d → T (shape_of d) → (lo hi : Float) → bounds_of d ≡ Ok (Some (lo, hi)) → (u : Float) → Between (of_bits binary64 0) one u → Decoded (range_of lo hi u) d
 decode-accepted (Distribution.Float d) f t lo hi e u b =
     let s = unscaled d.log_scale lo hi u (end-rules (Distribution.Float d) f t lo hi e) b in
     let c = clamped d s.value (unfold shape_of in t) s.size in
@@ -160,7 +159,7 @@ module _ (w : ℕ) (h : Nonzero w) where
         let v = log-drawn D tt f (unfold shape_of in t) (is_true d.log_scale l) (unit_draw_of w).value unit in
         unit-drawn w h D (λ u. log_float d (log_range (ends_of D) u)) (rw v.is (go v.value v.size v.least)) tt
       where
-        go : (v : Float) → Within (power (pos 53)) v → T (le (power (negsuc 52)) v) → T (taken_of D (log_float d (Value v)))
+        go : (v : Float) → Within (power (pos 53)) v → T (le (power (negsuc 52)) v) → T (taken_of D (log_float d (Ok v)))
         go v s g = pick d.stepped (clamp_of d.low d.high (float_grid d v)) v (float-inside d (clamp_of d.low d.high (float_grid d v)) t (clamped d v t s)) (take-float d v s (λ _. g))
           where
             pick : (b : Bool) (x y : Float) → T (taken_of D (ParamValue.Float x)) → T (taken_of D (ParamValue.Float y)) → T (taken_of D (ParamValue.Float (cond b x y)))
@@ -264,7 +263,7 @@ encoded_limit log = cond log (of_int binary64 (pos 37)) (power (pos 53))
 
 pub record Encoded (d : Distribution) (v : ParamValue) : Type 0 where
   pub value : Float
-  pub is : to_internal_of v d ≡ Value value
+  pub is : to_internal_of v d ≡ Ok value
   pub size : Within (encoded_limit (on_log_scale d)) value
   pub fit : T (fits binary64 value)
 
@@ -313,7 +312,7 @@ quotient log x lo hi w r h =
     values false = unfold add le in tt
 
 pub normalised : (d : Distribution) (v : ParamValue) → FloatsFit d → ValueFits v → T (shape_of d) → T (taken_of d v)
-    → (x lo hi : Float) → to_internal_of v d ≡ Value x → bounds_of d ≡ InternalBounds.Ends lo hi → T (not (lt (abs (sub binary64 hi lo)) apart)) → Within largest (div binary64 (sub binary64 x lo) (sub binary64 hi lo))
+    → (x lo hi : Float) → to_internal_of v d ≡ Ok x → bounds_of d ≡ Ok (Some (lo, hi)) → T (not (lt (abs (sub binary64 hi lo)) apart)) → Within largest (div binary64 (sub binary64 x lo) (sub binary64 hi lo))
 normalised d v f g t k x lo hi p q h =
     let r = encode-accepted d v (has-ends d t lo hi q) g t k in
     let e : r.value ≡ x = cc r.is in

@@ -1,30 +1,29 @@
 -- `from_internal` of common.rs: a value of the model's space as a parameter's value. "Decode accepts finite values from lo − 1 to hi + 1 (internal bounds), else 11." Definitions only.
-use Rattle.std.specs.Prelude.{Bool, false, ◌&&◌, cond, pos, Float}
+use Rattle.refusal.specs.declared.Refusal.{Refusal}
+use Rattle.refusal.specs.Numbers.{cause_number}
+use Rattle.std.specs.Prelude.{Bool, false, ◌&&◌, cond, pos, Float, Result, Ok, Err, Some, None}
 use Rattle.std.specs.Float.{binary64}
 use Rattle.std.specs.Float.Ieee.{add, sub, le, of_int}
-use Rattle.arith.specs.declared.Outcome.{Outcome}
-use Rattle.arith.specs.declared.Outcome.TheVariants.{Value, Refused}
 use Rattle.exponential.specs.Exp.{exp_of}
 use Rattle.arith.specs.Outcome.{pick}
 use Rattle.distribution.specs.declared.FloatDistribution.{FloatDistribution}
 use Rattle.distribution.specs.declared.IntDistribution.{IntDistribution}
 use Rattle.distribution.specs.declared.Distribution.{Distribution}
 use Rattle.distribution.specs.declared.ParamValue.{ParamValue}
-use Rattle.encoding.specs.declared.InternalBounds.{InternalBounds}
-use Rattle.encoding.specs.Bounds.{bounds_of}
+use Rattle.encoding.specs.Bounds.{InternalBounds, bounds_of}
 use Rattle.common.specs.Grid.{clamp_of, float_grid, clamp_z, int_grid}
 
 -- a value, or on log scale its exponential
-abbrev pub unscale_of : Bool → Float → Outcome
-unscale_of log x = pick log (exp_of x) (Value x)
+abbrev pub unscale_of : Bool → Float → Result Float Refusal
+unscale_of log x = pick log (exp_of x) (Ok x)
 
-abbrev pub float_of : FloatDistribution → Outcome → ParamValue
-float_of d (Value v) = ParamValue.Float (clamp_of d.low d.high (float_grid d v))
-float_of d (Refused n) = ParamValue.Refused n
+abbrev pub float_of : FloatDistribution → Result Float Refusal → ParamValue
+float_of d (Ok v) = ParamValue.Float (clamp_of d.low d.high (float_grid d v))
+float_of d (Err r) = ParamValue.Refused (cause_number r)
 
-abbrev pub int_of : IntDistribution → Outcome → ParamValue
-int_of d (Value v) = ParamValue.Int (clamp_z d.low d.high (int_grid d v))
-int_of d (Refused n) = ParamValue.Refused n
+abbrev pub int_of : IntDistribution → Result Float Refusal → ParamValue
+int_of d (Ok v) = ParamValue.Int (clamp_z d.low d.high (int_grid d v))
+int_of d (Err r) = ParamValue.Refused (cause_number r)
 
 -- a choice has no decoding: the Rust's `unreachable!` is 11
 unfoldable pub decoded_of : Float → Distribution → ParamValue
@@ -36,9 +35,9 @@ abbrev pub one : Float
 one = of_int binary64 (pos 1)
 
 abbrev pub inside : InternalBounds → Float → Bool
-inside (InternalBounds.Ends lo hi) x = le (sub binary64 lo one) x && le x (add binary64 hi one)
-inside InternalBounds.Absent x = false
-inside (InternalBounds.Refused n) x = false
+inside (Ok (Some (lo, hi))) x = le (sub binary64 lo one) x && le x (add binary64 hi one)
+inside (Ok None) x = false
+inside (Err r) x = false
 
 unfoldable pub from_internal_of : Float → Distribution → ParamValue
 unfolding decoded_of

@@ -1,11 +1,10 @@
 -- What the grid of an int asks: nothing saturates. Definitions only.
-use Rattle.std.specs.Prelude.{◌≡◌, true, ℤ, ◌+ℤ◌, ◌*ℤ◌, Float}
+use Rattle.refusal.specs.declared.Refusal.{Refusal}
+use Rattle.std.specs.Prelude.{◌≡◌, true, ℤ, ◌+ℤ◌, ◌*ℤ◌, Float, Result, Ok, Err}
 use Rattle.std.specs.Float.{binary64}
 use Rattle.std.specs.Float.Ieee.{sub, div, of_int}
 use Rattle.std.specs.Int.{w64}
 use Rattle.std.proofs.Common.{SFits}
-use Rattle.arith.specs.declared.Outcome.{Outcome}
-use Rattle.arith.specs.declared.Outcome.TheVariants.{Value, Refused}
 use Rattle.distribution.specs.declared.IntDistribution.{IntDistribution}
 use Rattle.common.specs.Grid.{round_z}
 
@@ -18,6 +17,6 @@ pub record StepFits (d : IntDistribution) (v : Float) : Type 0 where
   pub sum : d.stepped ≡ true → SFits w64 (d.low +ℤ steps_to d v *ℤ d.step)
 
 -- the same of an answer
-abbrev pub OutcomeFits : IntDistribution → Outcome → Type 0
-OutcomeFits d (Value v) = StepFits d v
-OutcomeFits d (Refused n) = Unit
+abbrev pub OutcomeFits : IntDistribution → Result Float Refusal → Type 0
+OutcomeFits d (Ok v) = StepFits d v
+OutcomeFits d (Err r) = Unit

@@ -1,10 +1,11 @@
 -- `sample_random` of common.rs: a random value for any distribution, one word each. It clamps neither an unstepped float nor a linear stepped one. Definitions only.
-use Rattle.std.specs.Prelude.{ℕ, ◌-◌, cond, eqb, ℤ, pos, ◌+ℤ◌, ◌-ℤ◌, ◌*ℤ◌, nat_abs, Float}
+use Rattle.refusal.specs.declared.Refusal.TheVariants.{OutOfDomain}
+use Rattle.refusal.specs.declared.Refusal.{Refusal}
+use Rattle.refusal.specs.Numbers.{cause_number}
+use Rattle.std.specs.Prelude.{ℕ, ◌-◌, cond, eqb, ℤ, pos, ◌+ℤ◌, ◌-ℤ◌, ◌*ℤ◌, nat_abs, Float, Result, Ok, Err, Some, None}
 use Rattle.std.specs.Int.Signed.{quot_z}
 use Rattle.std.specs.Float.{binary64}
 use Rattle.std.specs.Float.Ieee.{add, sub, mul, div, of_int, to_signed}
-use Rattle.arith.specs.declared.Outcome.{Outcome}
-use Rattle.arith.specs.declared.Outcome.TheVariants.{Value, Refused}
 use Rattle.exponential.specs.Exp.{exp_of}
 use Rattle.arith.specs.Rounding.{floor_of}
 use Rattle.rng_util.specs.Draws.{unit_draw_of, whole_draw_of}
@@ -13,9 +14,8 @@ use Rattle.distribution.specs.declared.IntDistribution.{IntDistribution}
 use Rattle.distribution.specs.declared.Distribution.{Distribution}
 use Rattle.distribution.specs.declared.ParamValue.{ParamValue}
 use Rattle.distribution.specs.Shape.{shape_of}
-use Rattle.encoding.specs.declared.InternalBounds.{InternalBounds}
+use Rattle.encoding.specs.Bounds.{InternalBounds, ends_of}
 use Rattle.common.specs.declared.RandomDraw.{RandomDraw}
-use Rattle.encoding.specs.Bounds.{ends_of}
 use Rattle.common.specs.Decode.{int_of}
 use Rattle.common.specs.Grid.{clamp_of, float_grid}
 
@@ -45,15 +45,15 @@ abbrev pub range_of : Float → Float → Float → Float
 range_of low high u = add binary64 low (mul binary64 u (sub binary64 high low))
 
 -- on log scale: the exponential of a float between the logarithms of the ends
-abbrev pub log_range : InternalBounds → Float → Outcome
-log_range (InternalBounds.Ends lo hi) u = exp_of (range_of lo hi u)
-log_range InternalBounds.Absent u = Refused 11
-log_range (InternalBounds.Refused n) u = Refused n
+abbrev pub log_range : InternalBounds → Float → Result Float Refusal
+log_range (Ok (Some (lo, hi))) u = exp_of (range_of lo hi u)
+log_range (Ok None) u = Err OutOfDomain
+log_range (Err r) u = Err r
 
 -- a stepped float on log scale is clamped, an unstepped one is not
-abbrev pub log_float : FloatDistribution → Outcome → ParamValue
-log_float d (Value v) = ParamValue.Float (cond d.stepped (clamp_of d.low d.high (float_grid d v)) v)
-log_float d (Refused n) = ParamValue.Refused n
+abbrev pub log_float : FloatDistribution → Result Float Refusal → ParamValue
+log_float d (Ok v) = ParamValue.Float (cond d.stepped (clamp_of d.low d.high (float_grid d v)) v)
+log_float d (Err r) = ParamValue.Refused (cause_number r)
 
 unfoldable pub log_float_random : ℕ → FloatDistribution → RandomDraw
 unfolding from_unit

@@ -5,18 +5,18 @@ ghost use Rattle.common.specs.DecodeParts.{Decodable};
 ghost use Rattle.common.specs.GridParts.{OutcomeFits};
 
 use crate::grid::{clamp, float_grid, int_clamp, int_grid};
-use arith::Outcome;
 use distribution::{Distribution, FloatDistribution, IntDistribution, ParamValue};
 use encoding::{InternalBounds, internal_bounds};
+use refusal::Refusal;
 
 // A value, or on log scale its exponential.
-fn unscale(log_scale: bool, x: f64) -> Outcome
+fn unscale(log_scale: bool, x: f64) -> Result<f64, Refusal>
     ensures { result ≡ unscale_of log_scale x }
 {
     if log_scale {
         exponential::exp(x)
     } else {
-        Outcome::Value(x)
+        Ok(x)
     }
 }
 
@@ -25,28 +25,28 @@ fn is_inside(b: InternalBounds, x: f64) -> bool
     ensures { result ≡ inside b x }
 {
     match b {
-        InternalBounds::Ends(lo, hi) => lo - 1.0 <= x && x <= hi + 1.0,
-        InternalBounds::Absent => false,
-        InternalBounds::Refused(_) => false,
+        Ok(Some(ends)) => ends.0 - 1.0 <= x && x <= ends.1 + 1.0,
+        Ok(None) => false,
+        Err(_) => false,
     }
 }
 
-fn float_decoded(d: FloatDistribution, o: Outcome) -> ParamValue
+fn float_decoded(d: FloatDistribution, o: Result<f64, Refusal>) -> ParamValue
     ensures { result ≡ float_of d o }
 {
     match o {
-        Outcome::Value(v) => ParamValue::Float(clamp(d.low, d.high, float_grid(d, v))),
-        Outcome::Refused(n) => ParamValue::Refused(n),
+        Ok(v) => ParamValue::Float(clamp(d.low, d.high, float_grid(d, v))),
+        Err(refusal) => ParamValue::Refused(refusal.number()),
     }
 }
 
-pub(crate) fn int_decoded(d: IntDistribution, o: Outcome) -> ParamValue
+pub(crate) fn int_decoded(d: IntDistribution, o: Result<f64, Refusal>) -> ParamValue
     requires { OutcomeFits d o }
     ensures { result ≡ int_of d o }
 {
     match o {
-        Outcome::Value(v) => ParamValue::Int(int_clamp(d.low, d.high, int_grid(d, v))),
-        Outcome::Refused(n) => ParamValue::Refused(n),
+        Ok(v) => ParamValue::Int(int_clamp(d.low, d.high, int_grid(d, v))),
+        Err(refusal) => ParamValue::Refused(refusal.number()),
     }
 }
 

@@ -7,9 +7,9 @@ ghost use Rattle.common.specs.RandomParts.{LogFits, Stepped};
 use crate::RandomDraw;
 use crate::decode::int_decoded;
 use crate::grid::{clamp, float_grid};
-use arith::Outcome;
 use distribution::{Distribution, FloatDistribution, IntDistribution, ParamValue};
 use encoding::{InternalBounds, ends};
+use refusal::Refusal;
 
 // A refusal draws nothing.
 fn refused(w: u64, n: u64) -> RandomDraw
@@ -53,29 +53,29 @@ fn f64_range(low: f64, high: f64, u: f64) -> f64
 }
 
 // The same on log scale, from the logarithms of the ends.
-fn log_range(b: InternalBounds, u: f64) -> Outcome
+fn log_range(b: InternalBounds, u: f64) -> Result<f64, Refusal>
     ensures { result ≡ log_range b u }
 {
     match b {
-        InternalBounds::Ends(lo, hi) => exponential::exp(f64_range(lo, hi, u)),
-        InternalBounds::Absent => Outcome::Refused(11),
-        InternalBounds::Refused(n) => Outcome::Refused(n),
+        Ok(Some((lo, hi))) => exponential::exp(f64_range(lo, hi, u)),
+        Ok(None) => Err(Refusal::OutOfDomain),
+        Err(n) => Err(n),
     }
 }
 
 // A stepped float on log scale is clamped, an unstepped one is not.
-fn log_float(d: FloatDistribution, o: Outcome) -> ParamValue
+fn log_float(d: FloatDistribution, o: Result<f64, Refusal>) -> ParamValue
     ensures { result ≡ log_float d o }
 {
     match o {
-        Outcome::Value(v) => {
+        Ok(v) => {
             if d.stepped {
                 ParamValue::Float(clamp(d.low, d.high, float_grid(d, v)))
             } else {
                 ParamValue::Float(v)
             }
         }
-        Outcome::Refused(n) => ParamValue::Refused(n),
+        Err(refusal) => ParamValue::Refused(refusal.number()),
     }
 }
 

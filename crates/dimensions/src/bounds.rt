@@ -19,9 +19,9 @@ fn bounds_are(bounds: InternalBounds, lo: f64, hi: f64) -> bool
     ensures { result ≡ bounds_are bounds lo hi }
 {
     match bounds {
-        InternalBounds::Ends(a, b) => same_bits(a, lo) && same_bits(b, hi),
-        InternalBounds::Absent => same_bits(0.0, lo) && same_bits(0.0, hi),
-        InternalBounds::Refused(_) => false,
+        Ok(Some((a, b))) => same_bits(a, lo) && same_bits(b, hi),
+        Ok(None) => same_bits(0.0, lo) && same_bits(0.0, hi),
+        Err(_) => false,
     }
 }
 
@@ -29,17 +29,17 @@ fn with_bounds(distribution: Distribution, bounds: InternalBounds) -> DimensionI
     ensures { result ≡ with_bounds distribution bounds }
 {
     match bounds {
-        InternalBounds::Ends(lo, hi) => DimensionInfo {
+        Ok(Some((lo, hi))) => DimensionInfo {
             distribution,
             lo,
             hi,
         },
-        InternalBounds::Absent => DimensionInfo {
+        Ok(None) => DimensionInfo {
             distribution,
             lo: 0.0,
             hi: 0.0,
         },
-        InternalBounds::Refused(_) => DimensionInfo {
+        Err(_) => DimensionInfo {
             distribution,
             lo: 0.0,
             hi: 0.0,

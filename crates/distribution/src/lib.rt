@@ -55,13 +55,6 @@ pub enum ParamValue {
     Refused(u64),
 }
 
-// What six words say.
-#[derive(Clone, Copy)]
-pub enum Read {
-    WellFormed(Distribution),
-    Malformed,
-}
-
 // The kind of a value: 1 float, 2 int, 3 choice, 0 a refusal.
 pub fn kind(v: ParamValue) -> u64
     ensures { result ≡ kind_of v }

@@ -1,4 +1,5 @@
 -- The round trip of a distribution and its six words, kind by kind: a word that is no NaN's is the word of the float read from it. Assumes nothing.
+use Rattle.std.specs.Prelude.{Option, Some, None}
 use mathlib.Core.Path.{◌≡◌, refl, sym, ap, subst}
 use Prim.Native.Nat.{ℕ, zero, suc, ◌^◌, ◌<◌}
 use native.Mathlib.Omega.{arith}
@@ -21,7 +22,6 @@ use Rattle.distribution.specs.declared.FloatDistribution.{FloatDistribution}
 use Rattle.distribution.specs.declared.IntDistribution.{IntDistribution}
 use Rattle.distribution.specs.declared.CategoricalDistribution.{CategoricalDistribution}
 use Rattle.distribution.specs.declared.Distribution.{Distribution}
-use Rattle.distribution.specs.declared.Read.{Read}
 use Rattle.distribution.specs.Shape.{power, shape_of}
 use Rattle.distribution_words.specs.Words.{flag, only, words_of, checked_of, float_read, int_read, categorical_read, read_of}
 use Rattle.distribution_words.specs.RoundTrip.{Held, RoundTrip}
@@ -41,12 +41,12 @@ whole-fits : (z : ℤ) → Bounded (2 ^ 52) z → SFits w64 z
 whole-fits (pos n) b = record { sfits = let h = b.magnitude in omega arith }
 whole-fits (negsuc n) b = record { sfits = let h = b.magnitude in omega arith }
 
-checked-is : (d : Distribution) → T (shape_of d) → checked_of d ≡ Read.WellFormed d
+checked-is : (d : Distribution) → T (shape_of d) → checked_of d ≡ Some d
 unfolding checked_of
-checked-is d t = ap (λ (b : Bool). only b (Read.WellFormed d)) (is_true (shape_of d) t)
+checked-is d t = ap (λ (b : Bool). only b (Some d)) (is_true (shape_of d) t)
 
 reads : (d : Distribution) → Held d → T (shape_of d) → let w = words_of d in
-    read_of (get_or w 0 0) (get_or w 1 0) (get_or w 2 0) (get_or w 3 0) (get_or w 4 0) (get_or w 5 0) ≡ Read.WellFormed d
+    read_of (get_or w 0 0) (get_or w 1 0) (get_or w 2 0) (get_or w 3 0) (get_or w 4 0) (get_or w 5 0) ≡ Some d
 unfolding words_of read_of float_read int_read shape_of
 reads (Distribution.Float d) h t =
     simp (flag-low, flag-read, of_bits-to_bits binary64 d.low h.0, of_bits-to_bits binary64 d.high h.1, of_bits-to_bits binary64 d.step h.2) (checked-is (Distribution.Float d) t)
@@ -61,15 +61,15 @@ reads (Distribution.Categorical d) h t = checked-is (Distribution.Categorical d)
 never : ◌≡◌ {A = ℕ} 0 1 → ⊥
 never z = omega arith
 
-pub malformed : (d : Distribution) → Read.Malformed ≡ Read.WellFormed d → ⊥
+pub malformed : (d : Distribution) → None ≡ Some d → ⊥
 malformed d e = let z : ◌≡◌ {A = ℕ} 0 1 = cc in never z
 
 -- what is well-formed passed the test
-pub only-is : (b : Bool) (r : Read) (d : Distribution) → only b r ≡ Read.WellFormed d → T b × (r ≡ Read.WellFormed d)
+pub only-is : (b : Bool) (r : Option Distribution) (d : Distribution) → only b r ≡ Some d → T b × (r ≡ Some d)
 only-is true r d e = (tt, e)
 only-is false r d e = absurd (malformed d e)
 
-pick : (b : Bool) (x y : Read) (d : Distribution) → cond b x y ≡ Read.WellFormed d → (T b × (x ≡ Read.WellFormed d)) ⊎ (y ≡ Read.WellFormed d)
+pick : (b : Bool) (x y : Option Distribution) (d : Distribution) → cond b x y ≡ Some d → (T b × (x ≡ Some d)) ⊎ (y ≡ Some d)
 pick true x y d e = inl (tt, e)
 pick false x y d e = inr e
 
@@ -77,10 +77,10 @@ pick false x y d e = inr e
 abbrev From : List ℕ → Distribution → Type 0
 From ws d = Held d × T (shape_of d) × (words_of d ≡ ws)
 
-from : (ws : List ℕ) (x d : Distribution) → checked_of x ≡ Read.WellFormed d → (T (shape_of x) → Held x × (words_of x ≡ ws)) → From ws d
+from : (ws : List ℕ) (x d : Distribution) → checked_of x ≡ Some d → (T (shape_of x) → Held x × (words_of x ≡ ws)) → From ws d
 unfolding checked_of
 from ws x d e k =
-    let p = only-is (shape_of x) (Read.WellFormed x) d e in
+    let p = only-is (shape_of x) (Some x) d e in
     let same : x ≡ d = cc p.1 in
     let h = k p.0 in
     subst (From ws) same (h.0, p.0, h.1)
@@ -106,7 +106,7 @@ stepped-real d r =
 
 module _ (low high log stepped step : ℕ) (d : Distribution) where
   module _ (l : low < 2 ^ 64) (h : high < 2 ^ 64) (s : step < 2 ^ 64) where
-    float-words : float_read low high log stepped step ≡ Read.WellFormed d → From (1 ∷ low ∷ high ∷ log ∷ stepped ∷ step ∷ []) d
+    float-words : float_read low high log stepped step ≡ Some d → From (1 ∷ low ∷ high ∷ log ∷ stepped ∷ step ∷ []) d
     unfolding float_read shape_of words_of
     float-words e =
         let x : FloatDistribution = record { low = of_bits binary64 low; high = of_bits binary64 high; log_scale = eqb log 1; stepped = eqb stepped 1; step = of_bits binary64 step } in
@@ -118,7 +118,7 @@ module _ (low high log stepped step : ℕ) (d : Distribution) where
           rw (to_bits-of_bits binary64 low l (le-real x.low x.high r.order).0, to_bits-of_bits binary64 high h (le-real x.low x.high r.order).1, flag_word log (and_l (leb log 1) (leb stepped 1) p.0), flag_word stepped (and_r (leb log 1) (leb stepped 1) p.0), to_bits-of_bits binary64 step s (stepped-real x r)),
         ))
 
-    int-words : int_read low high log stepped step ≡ Read.WellFormed d → From (2 ∷ low ∷ high ∷ log ∷ stepped ∷ step ∷ []) d
+    int-words : int_read low high log stepped step ≡ Some d → From (2 ∷ low ∷ high ∷ log ∷ stepped ∷ step ∷ []) d
     unfolding int_read words_of
     int-words e =
         let x : IntDistribution = record { low = to_z w64 low; high = to_z w64 high; log_scale = eqb log 1; stepped = eqb stepped 1; step = to_z w64 step } in
@@ -129,7 +129,7 @@ module _ (low high log stepped step : ℕ) (d : Distribution) where
           rw (of_z-to_z w64 low (record { fits = l }), of_z-to_z w64 high (record { fits = h }), of_z-to_z w64 step (record { fits = s }), flag_word log (and_l (leb log 1) (leb stepped 1) p.0), flag_word stepped (and_r (leb log 1) (leb stepped 1) p.0)),
         ))
 
-  categorical-words : categorical_read low high log stepped step ≡ Read.WellFormed d → From (3 ∷ low ∷ high ∷ log ∷ stepped ∷ step ∷ []) d
+  categorical-words : categorical_read low high log stepped step ≡ Some d → From (3 ∷ low ∷ high ∷ log ∷ stepped ∷ step ∷ []) d
   unfolding categorical_read words_of
   categorical-words e =
       let x : CategoricalDistribution = record { n_choices = low } in
@@ -139,17 +139,17 @@ module _ (low high log stepped step : ℕ) (d : Distribution) where
       (λ t. (tt, rw (eqb→eq high 0 (search parts), eqb→eq log 0 (search parts), eqb→eq stepped 0 (search parts), eqb→eq step 0 (search parts))))
 
 words : (kind low high log stepped step : ℕ) (d : Distribution) → low < 2 ^ 64 → high < 2 ^ 64 → step < 2 ^ 64
-    → read_of kind low high log stepped step ≡ Read.WellFormed d → From (kind ∷ low ∷ high ∷ log ∷ stepped ∷ step ∷ []) d
+    → read_of kind low high log stepped step ≡ Some d → From (kind ∷ low ∷ high ∷ log ∷ stepped ∷ step ∷ []) d
 unfolding read_of
 words kind low high log stepped step d l h s e =
     let f = float_read low high log stepped step in
     let i = int_read low high log stepped step in
     let c = categorical_read low high log stepped step in
-    elim (pick (eqb kind 1) f (cond (eqb kind 2) i (cond (eqb kind 3) c Read.Malformed)) d e) [
+    elim (pick (eqb kind 1) f (cond (eqb kind 2) i (cond (eqb kind 3) c None)) d e) [
       | inl p ↦ at 1 p.0 (float-words low high log stepped step d l h s p.1)
-      | inr e ↦ elim (pick (eqb kind 2) i (cond (eqb kind 3) c Read.Malformed) d e) [
+      | inr e ↦ elim (pick (eqb kind 2) i (cond (eqb kind 3) c None) d e) [
         | inl p ↦ at 2 p.0 (int-words low high log stepped step d l h s p.1)
-        | inr e ↦ elim (pick (eqb kind 3) c Read.Malformed d e) [
+        | inr e ↦ elim (pick (eqb kind 3) c None d e) [
           | inl p ↦ at 3 p.0 (categorical-words low high log stepped step d p.1)
           | inr e ↦ absurd (malformed d e)
         ]

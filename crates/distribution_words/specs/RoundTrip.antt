@@ -1,9 +1,8 @@
 -- A well-formed distribution and its six words say the same: each is read back from the other. Definitions only.
-use Rattle.std.specs.Prelude.{◌≡◌, ℕ, ◌^◌, ◌<◌, [], ◌∷◌, T, get_or}
+use Rattle.std.specs.Prelude.{◌≡◌, ℕ, ◌^◌, ◌<◌, [], ◌∷◌, T, get_or, Some}
 use Rattle.std.specs.Float.{binary64}
 use Rattle.std.specs.Float.Ieee.{fits}
 use Rattle.distribution.specs.declared.Distribution.{Distribution}
-use Rattle.distribution.specs.declared.Read.{Read}
 use Rattle.distribution.specs.Shape.{shape_of}
 use Rattle.distribution_words.specs.Words.{words_of, read_of}
 
@@ -16,7 +15,7 @@ Held (Distribution.Categorical d) = Unit
 -- the kind and the two flags are below 2 ^ 64 wherever something is read
 pub record RoundTrip : Type 0 where
   pub reads : (d : Distribution) → Held d → T (shape_of d) → let w = words_of d in
-      read_of (get_or w 0 0) (get_or w 1 0) (get_or w 2 0) (get_or w 3 0) (get_or w 4 0) (get_or w 5 0) ≡ Read.WellFormed d
+      read_of (get_or w 0 0) (get_or w 1 0) (get_or w 2 0) (get_or w 3 0) (get_or w 4 0) (get_or w 5 0) ≡ Some d
   pub words : (kind low high log stepped step : ℕ) (d : Distribution) → low < 2 ^ 64 → high < 2 ^ 64 → step < 2 ^ 64
-      → read_of kind low high log stepped step ≡ Read.WellFormed d
+      → read_of kind low high log stepped step ≡ Some d
       → Held d × T (shape_of d) × (words_of d ≡ kind ∷ low ∷ high ∷ log ∷ stepped ∷ step ∷ [])

@@ -5,7 +5,7 @@ ghost use Rattle.distribution_words.specs.Words.{words_of, read_of, float_read, 
 
 use distribution::limits::all;
 use distribution::{
-    CategoricalDistribution, Distribution, FloatDistribution, IntDistribution, Read, well_formed,
+    CategoricalDistribution, Distribution, FloatDistribution, IntDistribution, well_formed,
 };
 
 fn flag_word(b: bool) -> u64
@@ -40,14 +40,10 @@ pub fn words_of(d: Distribution) -> [u64; 6]
 }
 
 // A distribution where it is well-formed.
-fn checked(d: Distribution) -> Read
+fn checked(d: Distribution) -> Option<Distribution>
     ensures { result ≡ checked_of d }
 {
-    if well_formed(d) {
-        Read::WellFormed(d)
-    } else {
-        Read::Malformed
-    }
+    if well_formed(d) { Some(d) } else { None }
 }
 
 // Whether the two flags are 0 or 1.
@@ -57,7 +53,7 @@ fn flags(log: u64, stepped: u64) -> bool
     log <= 1 && stepped <= 1
 }
 
-fn read_float(low: u64, high: u64, log: u64, stepped: u64, step: u64) -> Read
+fn read_float(low: u64, high: u64, log: u64, stepped: u64, step: u64) -> Option<Distribution>
     ensures { result ≡ float_read low high log stepped step }
 {
     if flags(log, stepped) {
@@ -69,11 +65,11 @@ fn read_float(low: u64, high: u64, log: u64, stepped: u64, step: u64) -> Read
             step: arith::float_of_word(step),
         }))
     } else {
-        Read::Malformed
+        None
     }
 }
 
-fn read_int(low: u64, high: u64, log: u64, stepped: u64, step: u64) -> Read
+fn read_int(low: u64, high: u64, log: u64, stepped: u64, step: u64) -> Option<Distribution>
     ensures { result ≡ int_read low high log stepped step }
 {
     if flags(log, stepped) {
@@ -85,22 +81,29 @@ fn read_int(low: u64, high: u64, log: u64, stepped: u64, step: u64) -> Read
             step: arith::int_of_word(step),
         }))
     } else {
-        Read::Malformed
+        None
     }
 }
 
-fn read_categorical(low: u64, high: u64, log: u64, stepped: u64, step: u64) -> Read
+fn read_categorical(low: u64, high: u64, log: u64, stepped: u64, step: u64) -> Option<Distribution>
     ensures { result ≡ categorical_read low high log stepped step }
 {
     if all(high == 0, log == 0, stepped == 0, step == 0) {
         checked(Distribution::Categorical(CategoricalDistribution { n_choices: low }))
     } else {
-        Read::Malformed
+        None
     }
 }
 
 // The distribution that six words say, or that they are malformed.
-pub fn distribution_of(kind: u64, low: u64, high: u64, log: u64, stepped: u64, step: u64) -> Read
+pub fn distribution_of(
+    kind: u64,
+    low: u64,
+    high: u64,
+    log: u64,
+    stepped: u64,
+    step: u64,
+) -> Option<Distribution>
     ensures { result ≡ read_of kind low high log stepped step }
 {
     if kind == 1 {
@@ -112,7 +115,7 @@ pub fn distribution_of(kind: u64, low: u64, high: u64, log: u64, stepped: u64, s
     if kind == 3 {
         return read_categorical(low, high, log, stepped, step);
     }
-    Read::Malformed
+    None
 }
 
 // A well-formed distribution and its six words say the same.

@@ -1,5 +1,7 @@
 -- The ends of a well-formed float or int in the model's space: finite, in order, and at most 2 ^ 52 in size, on log scale 36.05. By the laws of ln. A choice has none.
-use mathlib.Core.Path.{◌≡◌, refl, sym, subst}
+use Rattle.refusal.specs.declared.Refusal.TheVariants.{OutOfDomain}
+use Rattle.std.specs.Prelude.{Ok, Err, Some, None}
+use mathlib.Core.Path.{◌≡◌, refl, sym, ap, ◌∙◌, subst}
 use Prim.Native.Nat.{ℕ, suc, ◌-◌, ◌^◌}
 use native.Mathlib.Nat.{le_trans}
 use native.Mathlib.Omega.{arith}
@@ -7,10 +9,9 @@ use mathlib.Core.Bool.{Bool, true, false, cond}
 use lib.Dec.{T, leb→le, le→leb}
 use lib.IntN.{ℤ, pos, negsuc}
 use lib.Signed.{le_z}
-use lib.Ieee.{Float, binary64, add, mul, lt, le, neg, fits, of_bits, of_int}
+use lib.Ieee.{Float, nan, binary64, add, mul, lt, le, neg, fits, of_bits, of_int}
 use lib.Ieee.Bits.{is_true}
 use lib.Ieee.Fits.{of_int-fits, add-fits, cond-fits}
-use Rattle.arith.specs.declared.Outcome.TheVariants.{Value, Refused}
 use Rattle.arith.specs.Bounds.{Within, Between}
 use Rattle.logarithm.specs.Ln.{ln_of, normal, mantissa_of, exponent_of, halved_of, series_of}
 use Rattle.arith.specs.Outcome.{pick}
@@ -25,8 +26,7 @@ use Rattle.distribution.specs.declared.CategoricalDistribution.{CategoricalDistr
 use Rattle.distribution.specs.declared.Distribution.{Distribution}
 use Rattle.distribution.specs.Shape.{power, shape_of, float_shape, int_shape, continuous_of}
 use Rattle.distribution.proofs.Facts.{Bounded, float-rules, int-rules}
-use Rattle.encoding.specs.declared.InternalBounds.{InternalBounds}
-use Rattle.encoding.specs.Bounds.{pair_of, scale_of, ends_of, bounds_of}
+use Rattle.encoding.specs.Bounds.{InternalBounds, pair_of, scale_of, ends_of, bounds_of}
 
 -- ---- what a distribution has
 
@@ -61,7 +61,7 @@ pub record EndRules (log : Bool) (lo hi : Float) : Type 0 where
 pub record HasEnds (log : Bool) (b : InternalBounds) : Type 0 where
   pub lo : Float
   pub hi : Float
-  pub is : b ≡ InternalBounds.Ends lo hi
+  pub is : b ≡ Ok (Some (lo, hi))
   pub rules : EndRules log lo hi
 
 -- ---- a value from 2 ^ -(k + 1) to 2 ^ (k + 1), or its logarithm
@@ -74,7 +74,7 @@ pub record Scalable (k : ℕ) (log : Bool) (x : Float) : Type 0 where
 -- on log scale at most m in size
 pub record Scaled (m b : Float) (log : Bool) (x : Float) : Type 0 where
   pub value : Float
-  pub is : scale_of log x ≡ Value value
+  pub is : scale_of log x ≡ Ok value
   pub size : Within (cond log m b) value
   pub fit : T (fits binary64 value)
 
@@ -93,10 +93,10 @@ halved-fits m e =
     let e' = add binary64 e (of_int binary64 (pos 1)) in
     cond-fits binary64 (lt (of_bits binary64 0x3ff6a09e667f3bcd) m) (series_of m' e') (series_of m e) (series-fits m' e') (series-fits m e)
 
-ln-fits : (x v : Float) → ln_of x ≡ Value v → T (fits binary64 v)
+ln-fits : (x v : Float) → ln_of x ≡ Ok v → T (fits binary64 v)
 ln-fits x v e = go (normal x) (unfold ln_of in e)
   where
-    go : (b : Bool) → pick b (Value (halved_of (mantissa_of x) (of_int binary64 (exponent_of x)))) (Refused 11) ≡ Value v → T (fits binary64 v)
+    go : (b : Bool) → pick b (Ok (halved_of (mantissa_of x) (of_int binary64 (exponent_of x)))) (Err OutOfDomain) ≡ Ok v → T (fits binary64 v)
     go true e = let q : halved_of (mantissa_of x) (of_int binary64 (exponent_of x)) ≡ v = cc in subst (λ (y : Float). T (fits binary64 y)) q (halved-fits (mantissa_of x) (of_int binary64 (exponent_of x)))
     go false e = let z : ◌≡◌ {A = ℕ} 0 1 = cc in absurd (never z)
 
@@ -115,7 +115,7 @@ looser {log} {x} s = record {
 
 -- ---- both ends
 
-ordered : (log : Bool) (x y : Float) → Scalable 52 log x → Scalable 52 log y → T (le x y) → (v w : Float) → scale_of log x ≡ Value v → scale_of log y ≡ Value w → T (le v w)
+ordered : (log : Bool) (x y : Float) → Scalable 52 log x → Scalable 52 log y → T (le x y) → (v w : Float) → scale_of log x ≡ Ok v → scale_of log y ≡ Ok w → T (le v w)
 ordered true x y s t h v w p q = ln-mono x y s.fit t.fit (s.least tt, upper (power (pos 53)) x s.size) (t.least tt, upper (power (pos 53)) y t.size) h v w p q
 ordered false x y s t h v w p q =
     let a : x ≡ v = cc in
@@ -185,19 +185,30 @@ bounds (Distribution.Int d) c f t =
     (ends d.log_scale (of_int binary64 d.low) (of_int binary64 d.high) s.0 s.1 (of_int-mono d.low d.high (int-rules d t).order))
 bounds (Distribution.Categorical d) c f t = absurd c
 
-pub choice-bounds : (d : CategoricalDistribution) → T (shape_of (Distribution.Categorical d)) → bounds_of (Distribution.Categorical d) ≡ InternalBounds.Absent
+pub choice-bounds : (d : CategoricalDistribution) → T (shape_of (Distribution.Categorical d)) → bounds_of (Distribution.Categorical d) ≡ (Ok None)
 unfolding ends_of
 choice-bounds d t = well-formed (Distribution.Categorical d) t
 
+-- the two ends, of bounds that have them
+abbrev low_end : InternalBounds → Float
+low_end (Ok (Some e)) = e.0
+low_end (Ok None) = nan
+low_end (Err r) = nan
+
+abbrev high_end : InternalBounds → Float
+high_end (Ok (Some e)) = e.1
+high_end (Ok None) = nan
+high_end (Err r) = nan
+
 -- the same of ends that are given
-pub has-ends : (d : Distribution) → T (shape_of d) → (lo hi : Float) → bounds_of d ≡ InternalBounds.Ends lo hi → T (continuous_of d)
+pub has-ends : (d : Distribution) → T (shape_of d) → (lo hi : Float) → bounds_of d ≡ Ok (Some (lo, hi)) → T (continuous_of d)
 has-ends (Distribution.Float d) t lo hi e = tt
 has-ends (Distribution.Int d) t lo hi e = tt
 has-ends (Distribution.Categorical d) t lo hi e = let a = choice-bounds d t in let z : ◌≡◌ {A = ℕ} 0 1 = cc in absurd (never z)
 
-pub end-rules : (d : Distribution) → FloatsFit d → T (shape_of d) → (lo hi : Float) → bounds_of d ≡ InternalBounds.Ends lo hi → EndRules (on_log_scale d) lo hi
+pub end-rules : (d : Distribution) → FloatsFit d → T (shape_of d) → (lo hi : Float) → bounds_of d ≡ Ok (Some (lo, hi)) → EndRules (on_log_scale d) lo hi
 end-rules d f t lo hi e =
     let r = bounds d (has-ends d t lo hi e) f t in
-    let a : r.lo ≡ lo = cc r.is in
-    let b : r.hi ≡ hi = cc r.is in
+    let a : r.lo ≡ lo = ap low_end (sym r.is ∙ e) in
+    let b : r.hi ≡ hi = ap high_end (sym r.is ∙ e) in
     subst (λ (x : Float). EndRules (on_log_scale d) x hi) a (subst (λ (x : Float). EndRules (on_log_scale d) r.lo x) b r.rules)

@@ -3,30 +3,20 @@ ghost use Rattle.std.specs.Prelude.{◌≡◌};
 ghost use Rattle.encoding.specs.Bounds.{scale_of, pair_of, ends_of, bounds_of};
 
 use crate::InternalBounds;
-use arith::Outcome;
 use distribution::Distribution;
+use refusal::Refusal;
 
 // A value, or on log scale its logarithm.
-pub(crate) fn scale(log_scale: bool, x: f64) -> Outcome
+pub(crate) fn scale(log_scale: bool, x: f64) -> Result<f64, Refusal>
     ensures { result ≡ scale_of log_scale x }
 {
-    if log_scale {
-        logarithm::ln(x)
-    } else {
-        Outcome::Value(x)
-    }
+    if log_scale { logarithm::ln(x) } else { Ok(x) }
 }
 
-fn pair(lo: Outcome, hi: Outcome) -> InternalBounds
+fn pair(lo: Result<f64, Refusal>, hi: Result<f64, Refusal>) -> InternalBounds
     ensures { result ≡ pair_of lo hi }
 {
-    match lo {
-        Outcome::Value(a) => match hi {
-            Outcome::Value(b) => InternalBounds::Ends(a, b),
-            Outcome::Refused(n) => InternalBounds::Refused(n),
-        },
-        Outcome::Refused(n) => InternalBounds::Refused(n),
-    }
+    Ok(Some((lo?, hi?)))
 }
 
 // The ends of a well-formed distribution.
@@ -39,7 +29,7 @@ pub fn ends(d: Distribution) -> InternalBounds
             scale(i.log_scale, arith::float_of_int(i.low)),
             scale(i.log_scale, arith::float_of_int(i.high)),
         ),
-        Distribution::Categorical(_) => InternalBounds::Absent,
+        Distribution::Categorical(_) => Ok(None),
     }
 }
 
@@ -48,7 +38,7 @@ pub fn internal_bounds(d: Distribution) -> InternalBounds
     ensures { result ≡ bounds_of d }
 {
     if !distribution::well_formed(d) {
-        return InternalBounds::Refused(11);
+        return Err(Refusal::OutOfDomain);
     }
     ends(d)
 }

@@ -6,11 +6,7 @@ pub mod encode;
 
 pub use bounds::{ends, internal_bounds};
 pub use encode::to_internal;
+use refusal::Refusal;
 
 // The ends of a distribution in the model's space; a choice has none.
-#[derive(Clone, Copy)]
-pub enum InternalBounds {
-    Ends(f64, f64),
-    Absent,
-    Refused(u64),
-}
+pub type InternalBounds = Result<Option<(f64, f64)>, Refusal>;

@@ -1,7 +1,8 @@
 -- The definitions at single points, computed; the words of exp are what the Rust answers with document 01's recipe. Assumes nothing.
 use Rattle.std.proofs.Common.{◌≡◌, ℕ, false, pos, negsuc, refl}
 use lib.Ieee.{Float, nan, binary64, of_bits, of_int, to_bits, round, add, sub, mul, div, neg, lt, is_nan}
-use Rattle.arith.specs.Outcome.{number_of, word_of}
+use Rattle.refusal.specs.Numbers.{number_of}
+use Rattle.arith.specs.Outcome.{word_of}
 use Rattle.arith.specs.Rounding.{nearest_of, round_of}
 use Rattle.exponential.specs.Exp.{log2e, one, whole_of, reduced_of, horner_of, scaled_of, exp_of}
 use Rattle.exponential.specs.ExpParts.{Falling, size_of, falling_of}

@@ -1,4 +1,6 @@
 -- Where exp is accepted and how large it is, about the definition itself. The polynomial is from 0.5 to 1.5, so with a k of at most n in size the answer is from 2 ^ -(n + 1) to 2 ^ (n + 1). Assumes nothing.
+use Rattle.refusal.specs.declared.Refusal.TheVariants.{OutOfDomain}
+use Rattle.std.specs.Prelude.{Ok, Err}
 use Rattle.std.proofs.Common.{◌≡◌, ℕ, zero, suc, ◌+◌, ◌*◌, ◌/◌, ◌^◌, ◌<◌, ◌≤◌, Bool, true, false, cond, not, ◌&&◌, T, ◌⊎◌, ℤ, pos, negsuc, neg_ℤ, sym, refl, ap, ◌∙◌, subst, inl, inr, true≢false, zero-le, arith, pow_pos, pow_mono}
 use native.Mathlib.Nat.{div-eq_of_lt}
 use lib.Ieee.{Float, nan, inf, fin, binary64, up, down, mul, neg, lt, le, is_nan, of_int, of_bits}
@@ -6,7 +8,6 @@ use lib.Ieee.Bits as bits
 use lib.Ieee.Fits.{down_pos, and_l, and_r}
 use lib.Ieee.Positive.{between, mul_mono}
 use lib.Ieee.Scale.{finite}
-use Rattle.arith.specs.declared.Outcome.TheVariants.{Value, Refused}
 use Rattle.arith.specs.Bounds.{real, negative, Within, Between, Sign}
 use Rattle.arith.specs.Rounding.{nearest_of, round_of}
 use Rattle.exponential.specs.Exp.{exp_of, scaled_of, horner_of, reduced_of, whole_of, one, log2e}
@@ -78,7 +79,7 @@ low_end = of_int binary64 (negsuc 707)
 abbrev high_end : Float
 high_end = of_int binary64 (pos 709)
 
-pub accepted : (x : Float) → Between low_end high_end x → exp_of x ≡ Value (scaled_of x (mul binary64 x log2e))
+pub accepted : (x : Float) → Between low_end high_end x → exp_of x ≡ Ok (scaled_of x (mul binary64 x log2e))
 unfolding exp_of
 accepted x b =
     let n = bits.is_false (is_nan x) (order.le-real x high_end b.1).0 in
@@ -92,7 +93,7 @@ sized x b = within (fin false 709 (pos 0)) x b.1 (unfold neg in order.le_trans (
 
 -- exp x is accepted, and its value is from lo to hi
 abbrev pub Accepted : Float → Float → Float → Type 0
-Accepted lo hi x = (v : Float) × (exp_of x ≡ Value v) × Between lo hi v
+Accepted lo hi x = (v : Float) × (exp_of x ≡ Ok v) × Between lo hi v
 
 -- an x of at most b in size, where one computed test holds: the ends, k at most n, and the two powers
 tested : ℕ → Float → Float → Float → Bool
@@ -128,7 +129,7 @@ pub exp-decoded : (x : Float) → Within (of_bits binary64 0x40430ccccccccccd) x
 exp-decoded x w = by_size 55 (of_bits binary64 0x40430ccccccccccd) (pow (negsuc 55)) (pow (pos 56)) x (unfold tested le mul neg of_int of_bits in tt) w
 
 -- ---- no argument up to 0 is refused, and no number gives a NaN
-pub exp-nan : exp_of nan ≡ Value nan
+pub exp-nan : exp_of nan ≡ Ok nan
 unfolding exp_of is_nan
 exp-nan = refl
 
@@ -172,7 +173,7 @@ exp-nonpositive x h = elim (either (lt x low_end)) [ inl l ↦ far l | inr l ↦
         )
 
 -- whatever is accepted is not below 0, so it is no NaN, and it is finite
-pub exp-finite : (x v : Float) → real x → exp_of x ≡ Value v → Between (of_bits binary64 0) (fin false 3 (pos 1022)) v
+pub exp-finite : (x v : Float) → real x → exp_of x ≡ Ok v → Between (of_bits binary64 0) (fin false 3 (pos 1022)) v
 exp-finite x v p e = elim (either (lt x low_end)) [ inl l ↦ far l | inr l ↦ elim (either (lt high_end x)) [ inl u ↦ absurd (over l u) | inr u ↦ near l u ] ]
   where
     number : is_nan x ≡ false
@@ -180,13 +181,13 @@ exp-finite x v p e = elim (either (lt x low_end)) [ inl l ↦ far l | inr l ↦ 
 
     far : T (lt x low_end) → Between (of_bits binary64 0) (fin false 3 (pos 1022)) v
     far l =
-        let q : Value (of_bits binary64 0) ≡ exp_of x = unfold exp_of in rw (number, bits.is_true (lt x low_end) l) in
+        let q : Ok (of_bits binary64 0) ≡ exp_of x = unfold exp_of in rw (number, bits.is_true (lt x low_end) l) in
         let z : of_bits binary64 0 ≡ v = cc in
         let b : Between (of_bits binary64 0) (fin false 3 (pos 1022)) (of_bits binary64 0) = unfold le of_bits in (tt, tt) in
         subst (λ (y : Float). Between (of_bits binary64 0) (fin false 3 (pos 1022)) y) z b
 
     over : T (not (lt x low_end)) → T (lt high_end x) → ⊥
-    over l u = let q : Refused 11 ≡ exp_of x = unfold exp_of in rw (number, bits.is_false (lt x low_end) l, bits.is_true (lt high_end x) u) in let z : ◌≡◌ {A = ℕ} 0 1 = cc in omega arith
+    over l u = let q : Err OutOfDomain ≡ exp_of x = unfold exp_of in rw (number, bits.is_false (lt x low_end) l, bits.is_true (lt high_end x) u) in let z : ◌≡◌ {A = ℕ} 0 1 = cc in omega arith
 
     near : T (not (lt x low_end)) → T (not (lt high_end x)) → Between (of_bits binary64 0) (fin false 3 (pos 1022)) v
     near l u =

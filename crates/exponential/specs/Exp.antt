@@ -1,9 +1,9 @@
 -- exp, document 01's recipe line by line. Definitions only.
-use Rattle.std.specs.Prelude.{ℕ, zero, suc, false, cond, ℤ, pos, negsuc, neg_ℤ, from_bits, is_nan, Float}
+use Rattle.refusal.specs.declared.Refusal.TheVariants.{OutOfDomain}
+use Rattle.refusal.specs.declared.Refusal.{Refusal}
+use Rattle.std.specs.Prelude.{ℕ, zero, suc, false, cond, ℤ, pos, negsuc, neg_ℤ, from_bits, is_nan, Float, Result, Ok, Err}
 use Rattle.std.specs.Float.{nan, fin, binary64}
 use Rattle.std.specs.Float.Ieee.{add, sub, mul, div, lt, of_int}
-use Rattle.arith.specs.declared.Outcome.{Outcome}
-use Rattle.arith.specs.declared.Outcome.TheVariants.{Value, Refused}
 use Rattle.arith.specs.Outcome.{pick}
 use Rattle.arith.specs.Bounds.{negative}
 use Rattle.arith.specs.Ln2.{H, L}
@@ -36,10 +36,10 @@ unfolding whole_of round_of reduced_of horner_of
 scaled_of x t = mul binary64 (horner_of 13 (reduced_of x (round_of t)) one) (fin false 1 (whole_of t))
 
 -- "NaN gives NaN; below −708 gives +0; above 709 is 11. Else .."
-unfoldable pub exp_of : Float → Outcome
+unfoldable pub exp_of : Float → Result Float Refusal
 unfolding scaled_of
 exp_of x =
-    pick (is_nan x) (Value nan)
-    (pick (lt x (of_int binary64 (negsuc 707))) (Value (from_bits binary64 0))
-    (pick (lt (of_int binary64 (pos 709)) x) (Refused 11)
-    (Value (scaled_of x (mul binary64 x log2e)))))
+    pick (is_nan x) (Ok nan)
+    (pick (lt x (of_int binary64 (negsuc 707))) (Ok (from_bits binary64 0))
+    (pick (lt (of_int binary64 (pos 709)) x) (Err OutOfDomain)
+    (Ok (scaled_of x (mul binary64 x log2e)))))

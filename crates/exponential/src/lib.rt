@@ -11,7 +11,7 @@ ghost use Rattle.arith.specs.Rounding.{nearest_of};
 ghost use Rattle.exponential.specs.Exp.{exp_of, horner_of, reduced_of, one};
 ghost use Rattle.exponential.specs.ExpParts.{Falling, size_of, falling_of};
 
-use arith::Outcome;
+use refusal::Refusal;
 
 // The whole number nearest to the size of t, a half upward.
 fn nearest(t: f64) -> u64
@@ -61,23 +61,23 @@ fn horner(r: f64) -> f64
 }
 
 // The exponential of x: 11 above 709.
-pub fn exp(x: f64) -> Outcome
+pub fn exp(x: f64) -> Result<f64, Refusal>
     ensures { result ≡ exp_of x }
 {
     if x != x {
-        return Outcome::Value(x);
+        return Ok(x);
     }
     if x < -708.0 {
-        return Outcome::Value(0.0);
+        return Ok(0.0);
     }
     if x > 709.0 {
-        return Outcome::Refused(11);
+        return Err(Refusal::OutOfDomain);
     }
     let n = nearest(x * 1.4426950408889634);
     if x < 0.0 {
-        Outcome::Value(horner(reduced(x, -(n as f64))) * power_of_two(1023 - n))
+        Ok(horner(reduced(x, -(n as f64))) * power_of_two(1023 - n))
     } else {
-        Outcome::Value(horner(reduced(x, n as f64)) * power_of_two(1023 + n))
+        Ok(horner(reduced(x, n as f64)) * power_of_two(1023 + n))
     }
 }
 

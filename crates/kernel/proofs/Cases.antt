@@ -6,7 +6,8 @@ use mathlib.Core.List.{[], ◌∷◌}
 use lib.IntN.{pos}
 use lib.Ieee.{Float, binary64, of_bits, to_bits, round, add, sub, mul, div, neg, lt, is_nan, of_int}
 use Rattle.exponential.specs.Exp.{exp_of, horner_of, reduced_of, scaled_of, whole_of}
-use Rattle.arith.specs.Outcome.{number_of, word_of}
+use Rattle.refusal.specs.Numbers.{number_of}
+use Rattle.arith.specs.Outcome.{word_of}
 use Rattle.arith.specs.Rounding.{nearest_of, round_of}
 use Rattle.root.specs.Sqrt.{isqrt, root_of, sqrt_of}
 use Rattle.arith.specs.Sums.{sum_over}

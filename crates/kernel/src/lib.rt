@@ -5,7 +5,7 @@ ghost use Rattle.std.specs.Prelude.{◌≡◌, length};
 ghost use Rattle.kernel.specs.Accepts.{KernelAccepts};
 ghost use Rattle.kernel.specs.Matern.{squared_distance_of, squared_of, scaled_root_of, decay_of, matern52_of};
 
-use arith::Outcome;
+use refusal::Refusal;
 
 // The squared distance of two points of one length, each column by its lengthscale.
 fn distance(x1: &[f64], x2: &[f64], lengthscales: &[f64]) -> f64
@@ -23,16 +23,16 @@ fn distance(x1: &[f64], x2: &[f64], lengthscales: &[f64]) -> f64
 }
 
 // The same of any lists: 11 where they differ in length.
-pub fn squared_distance(x1: &[f64], x2: &[f64], lengthscales: &[f64]) -> Outcome
+pub fn squared_distance(x1: &[f64], x2: &[f64], lengthscales: &[f64]) -> Result<f64, Refusal>
     ensures { result ≡ squared_of x1.now x2.now lengthscales.now }
 {
     if x1.len() != x2.len() {
-        return Outcome::Refused(11);
+        return Err(Refusal::OutOfDomain);
     }
     if x1.len() != lengthscales.len() {
-        return Outcome::Refused(11);
+        return Err(Refusal::OutOfDomain);
     }
-    Outcome::Value(distance(x1, x2, lengthscales))
+    Ok(distance(x1, x2, lengthscales))
 }
 
 // The Rust's SQRT_5 times the root of a squared distance.
@@ -43,24 +43,27 @@ pub fn scaled_root(r_sq: f64) -> f64
 }
 
 // The kernel by a squared distance and its scaled root.
-pub fn decay(r_sq: f64, sqrt5_r: f64, signal_var: f64) -> Outcome
+pub fn decay(r_sq: f64, sqrt5_r: f64, signal_var: f64) -> Result<f64, Refusal>
     ensures { result ≡ decay_of r_sq sqrt5_r signal_var }
 {
-    match exponential::exp(-sqrt5_r) {
-        Outcome::Value(e) => { Outcome::Value(signal_var * (1.0 + sqrt5_r + 5.0 / 3.0 * r_sq) * e) }
-        Outcome::Refused(n) => Outcome::Refused(n),
-    }
+    let e = exponential::exp(-sqrt5_r)?;
+    Ok(signal_var * (1.0 + sqrt5_r + 5.0 / 3.0 * r_sq) * e)
 }
 
 // The kernel of two points: 11 where the lists differ in length.
-pub fn matern52(x1: &[f64], x2: &[f64], lengthscales: &[f64], signal_var: f64) -> Outcome
+pub fn matern52(
+    x1: &[f64],
+    x2: &[f64],
+    lengthscales: &[f64],
+    signal_var: f64,
+) -> Result<f64, Refusal>
     ensures { result ≡ matern52_of x1.now x2.now lengthscales.now signal_var }
 {
     if x1.len() != x2.len() {
-        return Outcome::Refused(11);
+        return Err(Refusal::OutOfDomain);
     }
     if x1.len() != lengthscales.len() {
-        return Outcome::Refused(11);
+        return Err(Refusal::OutOfDomain);
     }
     let r_sq = distance(x1, x2, lengthscales);
     decay(r_sq, scaled_root(r_sq), signal_var)

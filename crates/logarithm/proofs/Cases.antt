@@ -3,7 +3,8 @@ use mathlib.Core.Path.{◌≡◌, refl}
 use mathlib.Core.Bool.{true, false}
 use lib.IntN.{pos, negsuc}
 use lib.Ieee.{inf, binary64, of_bits, of_int, to_bits, round, add, sub, mul, div, lt}
-use Rattle.arith.specs.Outcome.{number_of, word_of}
+use Rattle.refusal.specs.Numbers.{number_of}
+use Rattle.arith.specs.Outcome.{word_of}
 use Rattle.logarithm.specs.Ln.{whole, field, digits, normal, mantissa_of, exponent_of, series, series_of, halved_of, ln_of}
 
 -- 6 is 1.5 * 2^2 and 0.75 is 1.5 * 2^-1; the least normal float, the one below it, 0, an infinity and -1

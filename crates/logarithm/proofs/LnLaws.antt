@@ -1,4 +1,5 @@
 -- Where ln is accepted and how large it is, about the definition itself: for an x from 2 ^ -n to 2 ^ n its e is from -n to n, and at either end m is on the side of 1 that keeps the answer within n × ln 2. Assumes nothing.
+use Rattle.std.specs.Prelude.{Ok}
 use mathlib.Core.Path.{◌≡◌, refl, sym, ap, ◌∙◌, subst}
 use mathlib.Core.Logic.{inl, inr}
 use Prim.Native.Nat.{ℕ, zero, suc, ◌+◌, ◌-◌, ◌*◌, ◌/◌, ◌%◌, ◌^◌, ◌≤◌, ◌<◌}
@@ -18,7 +19,6 @@ use lib.Ieee.Exact.{HasValue}
 use lib.Ieee.Order.{le_of_values}
 use lib.Ieee.Positive.{positive, between, positive-finite, values_of_le}
 use lib.Ieee.Scale.{finite}
-use Rattle.arith.specs.declared.Outcome.TheVariants.{Value}
 use Rattle.arith.specs.Bounds.{Within, Between}
 use Rattle.arith.specs.Ln2.{H}
 use Rattle.logarithm.specs.Ln.{ln_of, normal, field, digits, mantissa_of, exponent_of, series_of, halved_of, whole}
@@ -114,7 +114,7 @@ in-range n x N f b =
     at_field n x (field x) N refl (digits-few x) (values_of_le x (power (pos n)) u (2 ^ 1074) (2 ^ n) 1 p tt v (up-value n) b.1) (values_of_le (power (neg_ℤ (pos n))) x 1 (2 ^ n) u (2 ^ 1074) (positive-down n) p (down-value n) v b.0)
 
 -- ---- so it is normal, and m is from 1 to 2
-accepted : (n : ℕ) (x : Float) (k : ℕ) → n ≤ 53 → T (positive x) → In n x k → ln_of x ≡ Value (halved_of (mantissa_of x) (of_int binary64 (exponent_of x)))
+accepted : (n : ℕ) (x : Float) (k : ℕ) → n ≤ 53 → T (positive x) → In n x k → ln_of x ≡ Ok (halved_of (mantissa_of x) (of_int binary64 (exponent_of x)))
 unfolding ln_of
 accepted n x k N p i = rw is_normal
   where
@@ -309,7 +309,7 @@ module _ (p : ℕ) (d x : Float) (k : ℕ) (t : Ends p d) (f : T (fits binary64 
 
 -- ln x is accepted, and its value is at most d in size
 abbrev pub Accepted : Float → Float → Type 0
-Accepted d x = (v : Float) × (ln_of x ≡ Value v) × Within d v
+Accepted d x = (v : Float) × (ln_of x ≡ Ok v) × Within d v
 
 ln-within : (p : ℕ) (d : Float) → Ends p d → (x : Float) → T (fits binary64 x) → Between (power (negsuc p)) (power (pos (suc p))) x → Accepted d x
 ln-within p d t x f b =

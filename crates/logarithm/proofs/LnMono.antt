@@ -1,4 +1,6 @@
 -- ln grows with x, from 2 ^ -53 to 2 ^ 53. For one e it grows with its term in m. From one e to the next a test of each e, computed, finds that it is no less at the least term than before at the largest. Assumes nothing.
+use Rattle.refusal.specs.declared.Refusal.TheVariants.{OutOfDomain}
+use Rattle.std.specs.Prelude.{Ok, Err}
 use mathlib.Core.Path.{◌≡◌, refl, sym, ap, ◌∙◌, subst}
 use mathlib.Core.Logic.{◌⊎◌, inl, inr}
 use Prim.Native.Nat.{ℕ, zero, suc, ◌+◌, ◌-◌, ◌*◌, ◌^◌, ◌≤◌, ◌<◌}
@@ -15,8 +17,8 @@ use lib.Ieee.Fits.{and_l, and_r, add-fits, of_int-fits}
 use lib.Ieee.Order.{le_of_values}
 use lib.Ieee.Positive.{positive, mul_at, positive_of_value, values_of_le}
 use lib.Ieee.Scale.{finite}
-use Rattle.arith.specs.declared.Outcome.TheVariants.{Value, Refused}
-use Rattle.arith.specs.Outcome.{pick, number_of}
+use Rattle.refusal.specs.Numbers.{number_of}
+use Rattle.arith.specs.Outcome.{pick}
 use Rattle.arith.specs.Bounds.{real, Between}
 use Rattle.arith.specs.Ln2.{H, L}
 use Rattle.logarithm.specs.Ln.{ln_of, normal, field, digits, mantissa_of, exponent_of, series, series_of, halved_of, whole}
@@ -295,11 +297,11 @@ rescale (inf t) s a b u U v = v
 rescale (fin t m e) s a b u U v = (v.0, eq_of_mul-eq-mul_right u U (m * up e * b) (a * down e) (mul_assoc (m * up e) b u ∙ v.1 ∙ mul_right_comm a u (down e)))
 
 -- ---- so ln grows
-opened : (x v : Float) → ln_of x ≡ Value v → T (normal x) × (v ≡ halved_of (mantissa_of x) (of_int binary64 (exponent_of x)))
+opened : (x v : Float) → ln_of x ≡ Ok v → T (normal x) × (v ≡ halved_of (mantissa_of x) (of_int binary64 (exponent_of x)))
 unfolding ln_of
 opened x v = go (normal x) (halved_of (mantissa_of x) (of_int binary64 (exponent_of x)))
   where
-    go : (b : Bool) (y : Float) → pick b (Value y) (Refused 11) ≡ Value v → T b × (v ≡ y)
+    go : (b : Bool) (y : Float) → pick b (Ok y) (Err OutOfDomain) ≡ Ok v → T b × (v ≡ y)
     go true y e = (tt, cc)
     go false y e = absurd (let z : 11 ≡ 0 = ap number_of e in omega arith)
 
@@ -317,7 +319,7 @@ first = fin false 1 (negsuc 52)
 abbrev last : Float
 last = fin false 1 (pos 53)
 
-known : (x v : Float) → T (fits binary64 x) → Between first last x → ln_of x ≡ Value v → (k : ℕ) × (k ≤ 1075) × Scaled x k (digits x) × Reduced k (digits x) v
+known : (x v : Float) → T (fits binary64 x) → Between first last x → ln_of x ≡ Ok v → (k : ℕ) × (k ≤ 1075) × Scaled x k (digits x) × Reduced k (digits x) v
 known x v f b e =
     let o = opened x v e in
     let r = field_in x o.0 in
@@ -336,7 +338,7 @@ known x v f b e =
 
 pub ln-mono : (x y : Float) → T (fits binary64 x) → T (fits binary64 y)
     → Between (fin false 1 (negsuc 52)) (fin false 1 (pos 53)) x → Between (fin false 1 (negsuc 52)) (fin false 1 (pos 53)) y → T (le x y)
-    → (v w : Float) → ln_of x ≡ Value v → ln_of y ≡ Value w → T (le v w)
+    → (v w : Float) → ln_of x ≡ Ok v → ln_of y ≡ Ok w → T (le v w)
 ln-mono x y f g X Y h v w p q =
     let a = known x v f X p in
     let b = known y w g Y q in

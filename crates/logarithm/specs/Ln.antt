@@ -1,9 +1,9 @@
 -- ln, document 01's recipe line by line. Definitions only.
-use Rattle.std.specs.Prelude.{ℕ, zero, suc, ◌+◌, ◌*◌, ◌/◌, ◌%◌, Bool, cond, ◌&&◌, leb, ltb, ℤ, pos, Float}
+use Rattle.refusal.specs.declared.Refusal.TheVariants.{OutOfDomain}
+use Rattle.refusal.specs.declared.Refusal.{Refusal}
+use Rattle.std.specs.Prelude.{ℕ, zero, suc, ◌+◌, ◌*◌, ◌/◌, ◌%◌, Bool, cond, ◌&&◌, leb, ltb, ℤ, pos, Float, Result, Ok, Err}
 use Rattle.std.specs.Float.{binary64}
 use Rattle.std.specs.Float.Ieee.{add, sub, mul, div, lt, of_int, of_bits, to_bits, minus}
-use Rattle.arith.specs.declared.Outcome.{Outcome}
-use Rattle.arith.specs.declared.Outcome.TheVariants.{Value, Refused}
 use Rattle.arith.specs.Outcome.{pick}
 use Rattle.arith.specs.Ln2.{H, L}
 
@@ -52,6 +52,6 @@ halved_of m e =
     cond (lt (of_bits binary64 0x3ff6a09e667f3bcd) m) (series_of (mul binary64 m (of_bits binary64 0x3fe0000000000000)) (add binary64 e (whole 1)))
     (series_of m e)
 
-unfoldable pub ln_of : Float → Outcome
+unfoldable pub ln_of : Float → Result Float Refusal
 unfolding normal halved_of mantissa_of exponent_of
-ln_of x = pick (normal x) (Value (halved_of (mantissa_of x) (of_int binary64 (exponent_of x)))) (Refused 11)
+ln_of x = pick (normal x) (Ok (halved_of (mantissa_of x) (of_int binary64 (exponent_of x)))) (Err OutOfDomain)

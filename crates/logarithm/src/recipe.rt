@@ -4,7 +4,7 @@ ghost use Rattle.std.specs.Float.{binary64};
 ghost use Rattle.std.specs.Float.Ieee.{of_int, minus};
 ghost use Rattle.logarithm.specs.Ln.{ln_of, series_of, halved_of};
 
-use arith::Outcome;
+use refusal::Refusal;
 
 // The exponent's field, less 1023, as a float.
 fn exponent(field: u64) -> f64
@@ -50,21 +50,21 @@ fn halved(m: f64, e: f64) -> f64
 }
 
 // The natural logarithm of x: 11 where x is not normal, positive and finite.
-pub fn ln(x: f64) -> Outcome
+pub fn ln(x: f64) -> Result<f64, Refusal>
     ensures { result ≡ ln_of x }
 {
     if x > 0.0 {
         let b = f64::to_bits(x);
         let field = b / 0x10_0000_0000_0000;
         if field < 1 {
-            return Outcome::Refused(11);
+            return Err(Refusal::OutOfDomain);
         }
         if field >= 2047 {
-            return Outcome::Refused(11);
+            return Err(Refusal::OutOfDomain);
         }
         let m = f64::from_bits(0x3ff0_0000_0000_0000 + b % 0x10_0000_0000_0000);
-        Outcome::Value(halved(m, exponent(field)))
+        Ok(halved(m, exponent(field)))
     } else {
-        Outcome::Refused(11)
+        Err(Refusal::OutOfDomain)
     }
 }

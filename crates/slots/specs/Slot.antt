@@ -1,8 +1,8 @@
 -- "parameter id, distribution, taken value": one slot, and two. Definitions only.
-use Rattle.std.specs.Prelude.{ℕ, Bool, false, cond, not, ◌&&◌, ◌||◌, List, eqb, get_or}
+use Rattle.distribution.specs.declared.Distribution.{Distribution}
+use Rattle.std.specs.Prelude.{ℕ, Bool, false, cond, not, ◌&&◌, ◌||◌, List, eqb, get_or, Option, Some, None}
 use Rattle.arith.specs.Lists.{every}
 use Rattle.distribution.specs.declared.ParamValue.{ParamValue}
-use Rattle.distribution.specs.declared.Read.{Read}
 use Rattle.distribution.specs.Equal.{equal_of}
 use Rattle.distribution.specs.Taken.{taken_of, value_of}
 use Rattle.distribution_words.specs.Words.{read_of}
@@ -25,13 +25,13 @@ abbrev pub present : List ℕ → Bool
 present slot = not (eqb (kind_of slot) 0)
 
 -- what its six words of a distribution say
-unfoldable pub slot_read : List ℕ → Read
+unfoldable pub slot_read : List ℕ → Option Distribution
 slot_read slot = read_of (kind_of slot) (get_or slot 2 0) (get_or slot 3 0) (get_or slot 4 0) (get_or slot 5 0) (get_or slot 6 0)
 
 -- the taken word obeys the Taken rule of a well-formed distribution
-abbrev pub taken_read : Read → ℕ → Bool
-taken_read (Read.WellFormed d) w = taken_of d (value_of d w)
-taken_read Read.Malformed w = false
+abbrev pub taken_read : Option Distribution → ℕ → Bool
+taken_read (Some d) w = taken_of d (value_of d w)
+taken_read None w = false
 
 -- "absent and all zero", or well-formed with a value that was taken
 unfoldable pub slot_ok : List ℕ → Bool
@@ -45,10 +45,10 @@ abbrev pub same_id : List ℕ → List ℕ → Bool
 same_id a b = present a && present b && eqb (id_of a) (id_of b)
 
 -- two distributions that were read are equal
-abbrev pub reads_equal : Read → Read → Bool
-reads_equal (Read.WellFormed a) (Read.WellFormed b) = equal_of a b
-reads_equal (Read.WellFormed a) Read.Malformed = false
-reads_equal Read.Malformed b = false
+abbrev pub reads_equal : Option Distribution → Option Distribution → Bool
+reads_equal (Some a) (Some b) = equal_of a b
+reads_equal (Some a) None = false
+reads_equal None b = false
 
 -- not of one id, or of equal distributions
 unfoldable pub agreeing : List ℕ → List ℕ → Bool
@@ -62,6 +62,6 @@ abbrev pub has_id : ℕ → List ℕ → Bool
 has_id id v = present v && eqb (id_of v) id
 
 -- the value of a slot, of its distribution's kind
-abbrev pub value_read : Read → ℕ → ParamValue
-value_read (Read.WellFormed d) w = value_of d w
-value_read Read.Malformed w = ParamValue.Refused 11
+abbrev pub value_read : Option Distribution → ℕ → ParamValue
+value_read (Some d) w = value_of d w
+value_read None w = ParamValue.Refused 11

@@ -3,7 +3,7 @@ ghost use Rattle.std.specs.Prelude.{◌≡◌, get_or, eqb};
 ghost use Rattle.arith.specs.Lists.{every};
 ghost use Rattle.slots.specs.Slot.{present, slot_read, taken_read, slot_ok, same_id, reads_equal, value_read, has_id};
 
-use distribution::{ParamValue, Read};
+use distribution::{Distribution, ParamValue};
 
 // Word k, or 0 past the end.
 fn word(slot: &[u64], k: usize) -> u64
@@ -19,7 +19,7 @@ pub fn is_present(slot: &[u64]) -> bool
 }
 
 // What its six words of a distribution say.
-pub fn read(slot: &[u64]) -> Read
+pub fn read(slot: &[u64]) -> Option<Distribution>
     ensures { result ≡ slot_read slot.now }
 {
     distribution_words::distribution_of(
@@ -33,22 +33,22 @@ pub fn read(slot: &[u64]) -> Read
 }
 
 // Whether a word may stand as the taken value of what was read.
-fn taken_read(read: Read, word: u64) -> bool
+fn taken_read(read: Option<Distribution>, word: u64) -> bool
     ensures { result ≡ taken_read read word }
 {
     match read {
-        Read::WellFormed(d) => distribution::taken_rule(d, distribution::value_of_word(d, word)),
-        Read::Malformed => false,
+        Some(d) => distribution::taken_rule(d, distribution::value_of_word(d, word)),
+        None => false,
     }
 }
 
 // A word as a value of what was read.
-fn value_read(read: Read, word: u64) -> ParamValue
+fn value_read(read: Option<Distribution>, word: u64) -> ParamValue
     ensures { result ≡ value_read read word }
 {
     match read {
-        Read::WellFormed(d) => distribution::value_of_word(d, word),
-        Read::Malformed => ParamValue::Refused(11),
+        Some(d) => distribution::value_of_word(d, word),
+        None => ParamValue::Refused(11),
     }
 }
 
@@ -98,14 +98,14 @@ pub fn same_id(a: &[u64], b: &[u64]) -> bool
 }
 
 // Whether two distributions that were read are equal.
-pub fn reads_equal(a: Read, b: Read) -> bool
+pub fn reads_equal(a: Option<Distribution>, b: Option<Distribution>) -> bool
     ensures { result ≡ reads_equal a b }
 {
     match a {
-        Read::WellFormed(d) => match b {
-            Read::WellFormed(e) => distribution::equal(d, e),
-            Read::Malformed => false,
+        Some(d) => match b {
+            Some(e) => distribution::equal(d, e),
+            None => false,
         },
-        Read::Malformed => false,
+        None => false,
     }
 }

@@ -1,10 +1,10 @@
 -- The definitions at document 01's second word from 1, "100041060c011441", by computation.
+use Rattle.std.specs.Prelude.{Some, None}
 use Prim.Native.Nat.{ℕ}
 use mathlib.Core.Path.{◌≡◌, refl}
 use mathlib.Core.Bool.{true, false}
 use mathlib.Core.List.{List, [], ◌∷◌}
 use lib.ListN.{drop}
-use Rattle.word_text.specs.declared.Parsed.TheVariants.{Word, Malformed}
 use Rattle.word_text.specs.Digits.{digit_of, value_of, all_digits, of_digits, last_digits, digits_of, parse_of}
 
 abbrev text : List ℕ
@@ -14,19 +14,19 @@ printed : digits_of 0x100041060c011441 ≡ text
 unfolding last_digits
 printed = refl
 
-read : parse_of text ≡ Word 0x100041060c011441
+read : parse_of text ≡ Some 0x100041060c011441
 unfolding all_digits of_digits
 read = refl
 
 -- one digit more
-longer : parse_of (48 ∷ text) ≡ Malformed
+longer : parse_of (48 ∷ text) ≡ None
 longer = refl
 
 -- one digit less, and one of the digits as the byte `C`
 abbrev Refused : Type 0
 Refused =
-    (parse_of (drop 1 text) ≡ Malformed)
-    × (parse_of (67 ∷ drop 1 text) ≡ Malformed)
+    (parse_of (drop 1 text) ≡ None)
+    × (parse_of (67 ∷ drop 1 text) ≡ None)
 
 refused : Refused
 unfolding all_digits

@@ -1,7 +1,5 @@
 -- "words are 16 lower-case hexadecimal digits". Definitions only.
-use Rattle.std.specs.Prelude.{ℕ, zero, suc, ◌+◌, ◌-◌, ◌*◌, ◌/◌, ◌%◌, ◌^◌, Bool, true, ◌&&◌, cond, List, [], ◌∷◌, ◌++◌, eqb, leb, ltb, length}
-use Rattle.word_text.specs.declared.Parsed.{Parsed}
-use Rattle.word_text.specs.declared.Parsed.TheVariants.{Word, Malformed}
+use Rattle.std.specs.Prelude.{ℕ, zero, suc, ◌+◌, ◌-◌, ◌*◌, ◌/◌, ◌%◌, ◌^◌, Bool, true, ◌&&◌, cond, List, [], ◌∷◌, ◌++◌, eqb, leb, ltb, length, Option, Some, None}
 
 -- the byte of a digit from 0 to 15: `0` to `9`, `a` to `f`
 abbrev pub digit_of : ℕ → ℕ
@@ -34,5 +32,5 @@ abbrev pub digits_of : ℕ → List ℕ
 digits_of w = last_digits 16 w
 
 -- sixteen digits are a word, and anything else is malformed
-abbrev pub parse_of : List ℕ → Parsed
-parse_of s = cond (eqb (length s) 16 && all_digits s) (Word (of_digits s)) Malformed
+abbrev pub parse_of : List ℕ → Option ℕ
+parse_of s = cond (eqb (length s) 16 && all_digits s) (Some (of_digits s)) None

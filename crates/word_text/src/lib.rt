@@ -5,31 +5,24 @@ ghost use Rattle.std.specs.Prelude.{◌≡◌, ◌<◌};
 ghost use Rattle.word_text.specs.Digits.{digit_of, value_of, digits_of, parse_of};
 ghost use Rattle.word_text.specs.RoundTrip.{RoundTrip};
 
-// What a text is: a word, or malformed.
-#[derive(Clone, Copy)]
-pub enum Parsed {
-    Word(u64),
-    Malformed,
-}
-
 // The word that s is: exactly sixteen lower-case hexadecimal digits, the highest first. Anything else is malformed.
-pub fn parse(s: &[u8]) -> Parsed
+pub fn parse(s: &[u8]) -> Option<u64>
     ensures { result ≡ parse_of s.now }
 {
     if s.len() != 16 {
-        return Parsed::Malformed;
+        return None;
     }
     let mut n: u64 = 0;
     let mut i = 0;
     while i < s.len() {
         let v = value(s[i]);
         if v >= 16 {
-            return Parsed::Malformed;
+            return None;
         }
         n = n * 16 + v;
         i += 1;
     }
-    Parsed::Word(n)
+    Some(n)
 }
 
 // The sixteen digits of w.

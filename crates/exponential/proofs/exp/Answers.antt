@@ -1,9 +1,10 @@
 -- `exponential::exp` meets its contract: the tests bound x, so that k fits (`ExpRange.antt`), and the calls give what the definition says. Assumes nothing.
+use Rattle.refusal.specs.declared.Refusal.TheVariants.{OutOfDomain}
+use Rattle.std.specs.Prelude.{Ok, Err}
 use Rattle.std.proofs.Common.{◌≡◌, ℕ, ◌≤◌, true, false, not, T, pos, sym, refl, ap, ◌∙◌, subst, inl, inr, arith, le→leb}
 use lib.Ieee.{Float, binary64, mul, le, lt, ne, neg, of_int, of_bits, in_float, is_nan, fin, fits}
 use lib.Ieee.Bits.{is_false}
 use lib.Ieee.Compare.{differs_from_itself}
-use Rattle.arith.specs.declared.Outcome.TheVariants.{Value, Refused}
 use Rattle.arith.specs.Bounds.{Within}
 use Rattle.exponential.specs.Exp.{exp_of, scaled_of, log2e}
 use Rattle.arith.proofs.Tests.{taken, untaken, either}
@@ -14,22 +15,22 @@ use Rattle.exponential.proofs.exp.Goals as goal
 use Rattle.exponential.proofs.exp.Goals.{Else-x-3, Else-x-4, Then-x-4}
 
 -- what the tests pick
-at-nan : (x : Float) → ne x x ≡ true → Value x ≡ exp_of x
+at-nan : (x : Float) → ne x x ≡ true → Ok x ≡ exp_of x
 unfolding exp_of is_nan
-at-nan x e = subst (λ (y : Float). Value y ≡ exp_of y) (sym (differs_from_itself x (taken e))) refl
+at-nan x e = subst (λ (y : Float). Ok y ≡ exp_of y) (sym (differs_from_itself x (taken e))) refl
 
 number : (x : Float) → ne x x ≡ false → is_nan x ≡ false
 number x e = is_false (is_nan x) (no_nan x e)
 
-at_low : (x : Float) → ne x x ≡ false → lt x (neg (of_bits binary64 0x4086200000000000)) ≡ true → Value (of_bits binary64 0) ≡ exp_of x
+at_low : (x : Float) → ne x x ≡ false → lt x (neg (of_bits binary64 0x4086200000000000)) ≡ true → Ok (of_bits binary64 0) ≡ exp_of x
 unfolding exp_of of_int of_bits neg
 at_low x e l = rw (number x e, l)
 
-at_high : (x : Float) → ne x x ≡ false → lt x (neg (of_bits binary64 0x4086200000000000)) ≡ false → lt (of_bits binary64 0x4086280000000000) x ≡ true → Refused 11 ≡ exp_of x
+at_high : (x : Float) → ne x x ≡ false → lt x (neg (of_bits binary64 0x4086200000000000)) ≡ false → lt (of_bits binary64 0x4086280000000000) x ≡ true → Err OutOfDomain ≡ exp_of x
 unfolding exp_of of_int of_bits neg
 at_high x e l h = rw (number x e, l, h)
 
-at-middle : (x : Float) → ne x x ≡ false → lt x (neg (of_bits binary64 0x4086200000000000)) ≡ false → lt (of_bits binary64 0x4086280000000000) x ≡ false → Value (scaled_of x (mul binary64 x log2e)) ≡ exp_of x
+at-middle : (x : Float) → ne x x ≡ false → lt x (neg (of_bits binary64 0x4086200000000000)) ≡ false → lt (of_bits binary64 0x4086280000000000) x ≡ false → Ok (scaled_of x (mul binary64 x log2e)) ≡ exp_of x
 unfolding exp_of of_int of_bits neg
 at-middle x e l h = rw (number x e, l, h)
 
@@ -86,7 +87,7 @@ overflow_add-n c = omega (arith, at-pos (goal.at.overflow_add-n c).Else-x-4)
 pub power_of_two-requires-else-x-4 : goal.power_of_two-requires-else-x-4
 power_of_two-requires-else-x-4 c = omega (arith, at-pos (goal.at.power_of_two-requires-else-x-4 c).Else-x-4)
 
-middle : (c : Else-x-3) → Value (scaled_of (arg c) (mul binary64 (arg c) log2e)) ≡ exp_of (arg c)
+middle : (c : Else-x-3) → Ok (scaled_of (arg c) (mul binary64 (arg c) log2e)) ≡ exp_of (arg c)
 middle c = at-middle (arg c) c.if-x.false c.if-x-2.false c.if-x-3.false
 
 widened : (x : Float) → Within (fin false 177 (pos 2)) x → Within (fin false 709 (pos 0)) x
@@ -99,12 +100,12 @@ pub returns-then-x-4 : goal.returns-then-x-4
 returns-then-x-4 c =
     let x = arg (goal.at.returns-then-x-4 c).Else-x-3 in
     let w = widened x (neg-range (goal.at.returns-then-x-4 c).Else-x-3 (taken c.if-x-4.true)) in
-    ap Value (scaled-neg x _ _ _ c.nearest-n.result c.nearest-n.ensures w (taken c.if-x-4.true) (at-neg (goal.at.returns-then-x-4 c).Then-x-4) c.horner.ensures c.reduced.ensures c.power_of_two.ensures)
+    ap Ok (scaled-neg x _ _ _ c.nearest-n.result c.nearest-n.ensures w (taken c.if-x-4.true) (at-neg (goal.at.returns-then-x-4 c).Then-x-4) c.horner.ensures c.reduced.ensures c.power_of_two.ensures)
     ∙ middle (goal.at.returns-then-x-4 c).Else-x-3
 
 pub returns-else-x-4 : goal.returns-else-x-4
 returns-else-x-4 c =
     let x = arg (goal.at.returns-else-x-4 c).Else-x-3 in
     let w = pos-range (goal.at.returns-else-x-4 c).Else-x-3 (untaken c.if-x-4.false) in
-    ap Value (scaled-pos x _ _ _ c.nearest-n.result c.nearest-n.ensures (held (goal.at.returns-else-x-4 c).Else-x-3) w (untaken c.if-x-4.false) c.horner-else-x-4.ensures c.reduced-else-x-4.ensures c.power_of_two-else-x-4.ensures)
+    ap Ok (scaled-pos x _ _ _ c.nearest-n.result c.nearest-n.ensures (held (goal.at.returns-else-x-4 c).Else-x-3) w (untaken c.if-x-4.false) c.horner-else-x-4.ensures c.reduced-else-x-4.ensures c.power_of_two-else-x-4.ensures)
     ∙ middle (goal.at.returns-else-x-4 c).Else-x-3

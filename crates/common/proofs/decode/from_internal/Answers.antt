@@ -1,4 +1,6 @@
 -- `common::decode::from_internal` meets its contract: what is inside decodes with no saturation (`Domain.antt`). Assumes nothing.
+use Rattle.refusal.specs.declared.Refusal.TheVariants.{OutOfDomain}
+use Rattle.std.specs.Prelude.{Err}
 use mathlib.Core.Path.{◌≡◌, ◌∙◌, sym, ap}
 use mathlib.Core.Bool.{Bool, true, false, cond}
 use lib.Dec.{T}
@@ -6,8 +8,7 @@ use lib.Ieee.{Float}
 use Rattle.arith.proofs.Tests.{taken}
 use Rattle.distribution.specs.declared.Distribution.{Distribution}
 use Rattle.distribution.specs.Shape.{shape_of}
-use Rattle.encoding.specs.declared.InternalBounds.{InternalBounds}
-use Rattle.encoding.specs.Bounds.{bounds_of, ends_of}
+use Rattle.encoding.specs.Bounds.{InternalBounds, bounds_of, ends_of}
 use Rattle.common.specs.Decode.{inside, from_internal_of}
 use Rattle.common.proofs.Domain.{decodable}
 use Rattle.common.proofs.decode.from_internal.Goals as goal
@@ -21,7 +22,7 @@ shaped : (x : Float) (d : Distribution) → T (inside (bounds_of d) x) → T (sh
 unfolding bounds_of
 shaped x d h = go (shape_of d) h
   where
-    go : (b : Bool) → T (inside (cond b (ends_of d) (InternalBounds.Refused 11)) x) → T b
+    go : (b : Bool) → T (inside (cond b (ends_of d) (Err OutOfDomain)) x) → T b
     go true t = tt
     go false t = t
 

@@ -21,10 +21,7 @@ out : (c : After-int_clamp) → ReadBack c.int_clamp.result
 out c = search rules
 
 pub int_grid-requires : goal.int_grid-requires
-int_grid-requires c = subst (OutcomeFits c.args.d) c.in-Value.is c.requires
+int_grid-requires c = subst (OutcomeFits c.args.d) c.in-Ok.is c.requires
 
-pub returns-in-Value : goal.returns-in-Value
-returns-in-Value c = rw c.in-Value.is (ap ParamValue.Int (out (goal.at.returns-in-Value c).After-int_clamp ∙ c.int_clamp.ensures ∙ (λ i. clamp_z (low (goal.at.returns-in-Value c).Start i) (high (goal.at.returns-in-Value c).Start i) ((grid (goal.at.returns-in-Value c).After-int_grid ∙ c.int_grid.ensures) i))))
-
-pub returns-in-Refused : goal.returns-in-Refused
-returns-in-Refused c = rw c.in-Refused.is
+pub returns-in-Ok : goal.returns-in-Ok
+returns-in-Ok c = rw c.in-Ok.is (ap ParamValue.Int (out (goal.at.returns-in-Ok c).After-int_clamp ∙ c.int_clamp.ensures ∙ (λ i. clamp_z (low (goal.at.returns-in-Ok c).Start i) (high (goal.at.returns-in-Ok c).Start i) ((grid (goal.at.returns-in-Ok c).After-int_grid ∙ c.int_grid.ensures) i))))

@@ -1,11 +1,19 @@
 -- `common::decode::is_inside` meets its contract. Assumes nothing.
+use Rattle.std.specs.Prelude.{Ok, Some}
+use mathlib.Core.Path.{◌≡◌, ap, ◌∙◌}
 use lib.Ieee.{of_bits, of_int}
 use Rattle.common.proofs.decode.is_inside.Goals as goal
 
-pub returns-then-lo-x : goal.returns-then-lo-x
+pub returns-then-ends-x : goal.returns-then-ends-x
 unfolding of_bits of_int
-returns-then-lo-x c = rw (c.in-Ends.is, c.if-lo-x.true)
+returns-then-ends-x c =
+    let s = c.in-Ok-Some in
+    let e : c.args.b ≡ Ok (Some s.ends) = s.is ∙ ap Ok s.field-0-is in
+    rw (e, c.if-ends-x.true)
 
-pub returns-else-lo-x : goal.returns-else-lo-x
+pub returns-else-ends-x : goal.returns-else-ends-x
 unfolding of_bits of_int
-returns-else-lo-x c = rw (c.in-Ends.is, c.if-lo-x.false)
+returns-else-ends-x c =
+    let s = c.in-Ok-Some in
+    let e : c.args.b ≡ Ok (Some s.ends) = s.is ∙ ap Ok s.field-0-is in
+    rw (e, c.if-ends-x.false)

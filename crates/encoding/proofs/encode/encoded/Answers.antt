@@ -1,9 +1,10 @@
 -- `encoding::encode::encoded` meets its contract, by the two kinds. Assumes nothing.
+use Rattle.refusal.specs.declared.Refusal.TheVariants.{OutOfDomain}
+use Rattle.std.specs.Prelude.{Err}
 use mathlib.Core.Path.{◌≡◌, ◌∙◌, sym, ap}
 use mathlib.Core.Bool.{true, false}
 use lib.IntN.{ℤ}
 use lib.Ieee.{Float, binary64, of_int}
-use Rattle.arith.specs.declared.Outcome.TheVariants.{Refused}
 use Rattle.distribution.specs.declared.FloatDistribution.{FloatDistribution}
 use Rattle.distribution.specs.declared.IntDistribution.{IntDistribution}
 use Rattle.distribution.specs.declared.CategoricalDistribution.{CategoricalDistribution}
@@ -22,7 +23,7 @@ whole c = search rules
 
 -- what the test of the Taken rule picks
 module _ (v : ParamValue) (d : Distribution) (x : Float) (f : FloatDistribution) (ev : v ≡ ParamValue.Float x) (ed : d ≡ Distribution.Float f) where
-  float-refused : taken_of d v ≡ false → Refused 11 ≡ encoded_of v d
+  float-refused : taken_of d v ≡ false → Err OutOfDomain ≡ encoded_of v d
   unfolding encoded_of
   float-refused t = rw (ev, ed, rw (ed, ev) at t)
 
@@ -31,7 +32,7 @@ module _ (v : ParamValue) (d : Distribution) (x : Float) (f : FloatDistribution)
   float-taken t = rw (ev, ed, rw (ed, ev) at t)
 
 module _ (v : ParamValue) (d : Distribution) (z : ℤ) (i : IntDistribution) (ev : v ≡ ParamValue.Int z) (ed : d ≡ Distribution.Int i) where
-  int-refused : taken_of d v ≡ false → Refused 11 ≡ encoded_of v d
+  int-refused : taken_of d v ≡ false → Err OutOfDomain ≡ encoded_of v d
   unfolding encoded_of
   int-refused t = rw (ev, ed, rw (ed, ev) at t)
 

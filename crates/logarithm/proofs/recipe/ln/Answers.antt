@@ -1,3 +1,5 @@
+use Rattle.refusal.specs.declared.Refusal.TheVariants.{OutOfDomain}
+use Rattle.std.specs.Prelude.{Ok, Err}
 use mathlib.Core.Path.{◌≡◌, ap, ◌∙◌}
 use mathlib.Core.Bool.{true, false}
 use Prim.Native.Nat.{◌+◌, ◌%◌, ◌≤◌, ◌<◌}
@@ -7,19 +9,18 @@ use lib.Dec.{T}
 use lib.Ieee.{Float, binary64, lt, of_bits, to_bits, of_int}
 use Rattle.arith.proofs.Order.{le_of_lt, le-real}
 use Rattle.logarithm.specs.Ln.{ln_of, normal, field, digits, mantissa_of, exponent_of, halved_of}
-use Rattle.arith.specs.declared.Outcome.TheVariants.{Value, Refused}
 use Rattle.arith.proofs.Patterns.{no_nan}
 use Rattle.arith.proofs.Tests.{taken}
 use Rattle.logarithm.proofs.recipe.ln.Goals as goal
 
 -- what the tests pick
-refused : (x : Float) → normal x ≡ false → Refused 11 ≡ ln_of x
+refused : (x : Float) → normal x ≡ false → Err OutOfDomain ≡ ln_of x
 unfolding ln_of
 refused x h = rw h
 
-given : (x r : Float) → normal x ≡ true → r ≡ halved_of (mantissa_of x) (of_int binary64 (exponent_of x)) → Value r ≡ ln_of x
+given : (x r : Float) → normal x ≡ true → r ≡ halved_of (mantissa_of x) (of_int binary64 (exponent_of x)) → Ok r ≡ ln_of x
 unfolding ln_of
-given x r h e = rw h (ap Value e)
+given x r h e = rw h (ap Ok e)
 
 not-above : (x : Float) → lt (of_bits binary64 0) x ≡ false → normal x ≡ false
 unfolding normal

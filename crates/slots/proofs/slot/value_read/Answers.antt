@@ -1,5 +1,5 @@
 -- `slots::slot::value_read` meets its contract. Assumes nothing.
 use Rattle.slots.proofs.slot.value_read.Goals as goal
 
-pub returns-in-WellFormed : goal.returns-in-WellFormed
-returns-in-WellFormed c = rw c.in-WellFormed.is c.value_of_word.ensures
+pub returns-in-Some : goal.returns-in-Some
+returns-in-Some c = rw c.in-Some.is c.value_of_word.ensures
