@@ -1,5 +1,5 @@
 // A value of the model's space as a parameter's value.
-ghost use Rattle.std.specs.Prelude.{◌≡◌};
+ghost use Rattle.std.specs.Prelude.{◌≡◌, Ok};
 ghost use Rattle.common.specs.Decode.{unscale_of, inside, float_of, int_of, decoded_of, from_internal_of};
 ghost use Rattle.common.specs.DecodeParts.{Decodable};
 ghost use Rattle.common.specs.GridParts.{OutcomeFits};
@@ -21,12 +21,21 @@ fn unscale(log_scale: bool, x: f64) -> Result<f64, Refusal>
 }
 
 // Whether x is from lo - 1 to hi + 1; never where there are no ends.
+fn is_between(ends: Option<(f64, f64)>, x: f64) -> bool
+    ensures { result ≡ inside (Ok ends) x }
+{
+    match ends {
+        Some(ends) => ends.0 - 1.0 <= x && x <= ends.1 + 1.0,
+        None => false,
+    }
+}
+
+// The same of bounds that may be refused.
 fn is_inside(b: InternalBounds, x: f64) -> bool
     ensures { result ≡ inside b x }
 {
     match b {
-        Ok(Some(ends)) => ends.0 - 1.0 <= x && x <= ends.1 + 1.0,
-        Ok(None) => false,
+        Ok(ends) => is_between(ends, x),
         Err(_) => false,
     }
 }
