@@ -20,14 +20,12 @@ pub fn parse(s: &[u8]) -> Parsed
         return Parsed::Malformed;
     }
     let mut n: u64 = 0;
-    let mut i = 0;
-    while i < s.len() {
-        let v = value(s[i]);
+    for b in s {
+        let v = value(*b);
         if v >= 16 {
             return Parsed::Malformed;
         }
         n = n * 16 + v;
-        i += 1;
     }
     Parsed::Word(n)
 }
@@ -38,11 +36,9 @@ pub fn print(w: u64) -> [u8; 16]
 {
     let mut out = [0u8; 16];
     let mut rest = w;
-    let mut i = 0;
-    while i < 16 {
-        out[15 - i] = digit(rest % 16);
+    for i in (0..16).rev() {
+        out[i] = digit(rest % 16);
         rest /= 16;
-        i += 1;
     }
     out
 }

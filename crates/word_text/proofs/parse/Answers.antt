@@ -15,26 +15,23 @@ use Rattle.word_text.proofs.parse.Goals.{Else-v-ge16}
 pub returns-then-s-ne16 : goal.returns-then-s-ne16
 returns-then-s-ne16 c = rw (ne_eqb (length c.args.s.now) 16 (omega arith))
 
-pub loop-i-init : goal.loop-i-init
+pub loop-b-init : goal.loop-b-init
 unfolding all_digits of_digits
-loop-i-init c = (omega arith, omega arith, refl, refl)
-
-pub bounds-s-i : goal.bounds-s-i
-bounds-s-i c = omega arith
+loop-b-init c = (omega arith, refl, refl)
 
 pub returns-then-v-ge16 : goal.returns-then-v-ge16
 returns-then-v-ge16 c =
     let s = c.args.s.now in
-    let i = c.loop-i.i in
+    let i = c.loop-b.b-index in
     let v : 16 ≤ value_of (get_or s i 0) = omega arith in
     rw (not-all s i (omega arith) v, and-false (eqb (length s) 16))
 
 -- the number of the digits passed has room for one digit more
-room : (c : Else-v-ge16) → c.loop-i.n < 16 ^ 15
+room : (c : Else-v-ge16) → c.loop-b.n < 16 ^ 15
 room c =
     let s = c.args.s.now in
-    let a = c.loop-i in
-    rw a.invariant.3 (of_room s a.i (omega arith) (omega arith) a.invariant.2)
+    let a = c.loop-b in
+    rw a.invariant.2 (of_room s a.b-index (omega arith) (omega arith) a.invariant.1)
 
 pub overflow_mul-n : goal.overflow_mul-n
 overflow_mul-n c = omega (arith, room c)
@@ -42,23 +39,17 @@ overflow_mul-n c = omega (arith, room c)
 pub overflow_add-n : goal.overflow_add-n
 overflow_add-n c = omega (arith, room c)
 
-pub overflow_add-i : goal.overflow_add-i
-overflow_add-i c = omega arith
-
-pub loop-i-smaller : goal.loop-i-smaller
-loop-i-smaller c = omega arith
-
-pub loop-i-preserved : goal.loop-i-preserved
-loop-i-preserved c =
+pub loop-b-preserved : goal.loop-b-preserved
+loop-b-preserved c =
     let s = c.args.s.now in
-    let a = c.loop-i in
-    let v : c.value-v.result ≡ value_of (get_or s a.i 0) = c.value-v.ensures in
-    let h : a.i < length s = omega arith in
-    (omega arith, a.invariant.1, all_more s a.i h a.invariant.2 (omega arith), rw (of-more s a.i h, v, a.invariant.3))
+    let a = c.loop-b in
+    let v : c.value-v.result ≡ value_of (get_or s a.b-index 0) = c.value-v.ensures in
+    let h : a.b-index < length s = omega arith in
+    (a.invariant.0, all_more s a.b-index h a.invariant.1 (omega arith), rw (of-more s a.b-index h, v, a.invariant.2))
 
 pub returns : goal.returns
 returns c =
     let s = c.args.s.now in
-    let a = c.loop-i in
-    let whole : take a.i s ≡ s = take_all a.i s (omega arith) in
-    rw (eq-eqb (length s) 16 a.invariant.1, rw whole at a.invariant.2, rw whole at a.invariant.3)
+    let a = c.loop-b in
+    let whole : take a.b-index s ≡ s = take_all a.b-index s (omega arith) in
+    rw (eq-eqb (length s) 16 a.invariant.0, rw whole at a.invariant.1, rw whole at a.invariant.2)
