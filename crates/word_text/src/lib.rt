@@ -1,7 +1,7 @@
 // Words as text: sixteen lower-case hexadecimal digits, the highest first.
 #![tactic(auto)]
 
-ghost use Rattle.std.specs.Prelude.{◌≡◌, ◌<◌};
+ghost use Rattle.std.specs.Prelude.{◌≡◌, ◌<◌, MatchOption};
 ghost use Rattle.word_text.specs.Digits.{digit_of, value_of, digits_of, parse_of};
 ghost use Rattle.word_text.specs.RoundTrip.{RoundTrip};
 
@@ -21,11 +21,10 @@ pub fn parse(s: &[u8]) -> Parsed
     }
     let mut n: u64 = 0;
     for b in s {
-        let v = value(*b);
-        if v >= 16 {
-            return Parsed::Malformed;
+        match value(*b) {
+            Some(v) => n = n * 16 + v,
+            None => return Parsed::Malformed,
         }
-        n = n * 16 + v;
     }
     Parsed::Word(n)
 }
@@ -43,14 +42,14 @@ pub fn print(w: u64) -> [u8; 16]
     out
 }
 
-// The value of a digit, and 16 of any other byte.
-fn value(b: u8) -> u64
-    ensures { result ≡ value_of b }
+// The value of a digit.
+fn value(b: u8) -> Option<u64>
+    ensures { MatchOption result (value_of b ≡ 16) (λ v. (v ≡ value_of b) × (v < 16)) }
 {
     match b {
-        b'0'..=b'9' => (b - b'0') as u64,
-        b'a'..=b'f' => (b - b'a') as u64 + 10,
-        _ => 16,
+        b'0'..=b'9' => Some(u64::from(b - b'0')),
+        b'a'..=b'f' => Some(u64::from(b - b'a') + 10),
+        _ => None,
     }
 }
 

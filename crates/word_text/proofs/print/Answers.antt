@@ -1,15 +1,10 @@
 -- `word_text::print` meets its contract. The loop's invariant: the digits that are left of `rest`, and then those stored, are the digits of `w`.
-use Prim.Native.Nat.{◌-◌}
-use mathlib.Core.Path.{◌≡◌, refl}
-use mathlib.Core.List.{append-nil}
+use mathlib.Core.Path.{◌≡◌}
 use native.Mathlib.Omega.{arith}
 use lib.ListN.{length-set}
-use Rattle.word_text.specs.Digits.{last_digits, digits_of}
+use Rattle.word_text.specs.Digits.{last_digits}
 use Rattle.word_text.proofs.Digits.{last_more}
 use Rattle.word_text.proofs.print.Goals as goal
-
-pub loop-i-init : goal.loop-i-init
-loop-i-init c = (refl, append-nil (digits_of c.args.w))
 
 pub loop-i-preserved : goal.loop-i-preserved
 loop-i-preserved c =
