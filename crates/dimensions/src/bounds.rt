@@ -34,12 +34,7 @@ fn with_bounds(distribution: Distribution, bounds: InternalBounds) -> DimensionI
             lo,
             hi,
         },
-        Ok(None) => DimensionInfo {
-            distribution,
-            lo: 0.0,
-            hi: 0.0,
-        },
-        Err(_) => DimensionInfo {
+        InternalBounds::Absent | InternalBounds::Refused(_) => DimensionInfo {
             distribution,
             lo: 0.0,
             hi: 0.0,
@@ -55,37 +50,24 @@ pub fn dimension(distribution: Distribution) -> DimensionInfo
 }
 
 // Whether a dimension has its distribution's bounds.
+#[tactic(auto, unfolding(crate::specs::Dimensions::dimension_ok))]
 fn dimension_ok(d: DimensionInfo) -> bool
     ensures { result ≡ dimension_ok d }
 {
-    let distribution = d.distribution;
-    bounds_are(encoding::internal_bounds(distribution), d.lo, d.hi)
+    bounds_are(encoding::internal_bounds(d.distribution), d.lo, d.hi)
 }
 
 // Whether they are at most 20, each with its distribution's bounds.
+#[tactic(auto, unfolding(crate::specs::Dimensions::dimensions_ok))]
 pub fn dimensions_ok(dims: [DimensionInfo; 20], k: usize) -> bool
     ensures { result ≡ dimensions_ok dims k }
 {
-    if k > 20 {
-        return false;
-    }
-    let mut j = 0;
-    while j < k {
-        if !dimension_ok(dims[j]) {
-            return false;
-        }
-        j += 1;
-    }
-    true
+    k <= 20 && dims[..k].iter().all(|d| dimension_ok(*d))
 }
 
 // Whether it is no choice.
 pub fn is_continuous(d: Distribution) -> bool
     ensures { result ≡ continuous_of d }
 {
-    match d {
-        Distribution::Float(_) => true,
-        Distribution::Int(_) => true,
-        Distribution::Categorical(_) => false,
-    }
+    !matches!(d, Distribution::Categorical(_))
 }

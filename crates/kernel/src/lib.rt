@@ -8,29 +8,26 @@ ghost use Rattle.kernel.specs.Matern.{squared_distance_of, squared_of, scaled_ro
 use refusal::Refusal;
 
 // The squared distance of two points of one length, each column by its lengthscale.
+#[tactic(auto, unfolding(arith::specs::Sums::sum_over))]
 fn distance(x1: &[f64], x2: &[f64], lengthscales: &[f64]) -> f64
     requires { (length x1.now ≡ length x2.now) × (length x1.now ≡ length lengthscales.now) }
     ensures { result ≡ squared_distance_of x1.now x2.now lengthscales.now }
 {
     let mut r_sq = 0.0;
-    let mut i = 0;
-    while i < x1.len() {
+    for i in 0..x1.len() {
         let diff = (x1[i] - x2[i]) / lengthscales[i];
         r_sq = r_sq + diff * diff;
-        i += 1;
     }
     r_sq
 }
 
 // The same of any lists: 11 where they differ in length.
-pub fn squared_distance(x1: &[f64], x2: &[f64], lengthscales: &[f64]) -> Result<f64, Refusal>
+#[tactic(auto, unfolding(crate::specs::Matern::squared_of))]
+pub fn squared_distance(x1: &[f64], x2: &[f64], lengthscales: &[f64]) -> Outcome
     ensures { result ≡ squared_of x1.now x2.now lengthscales.now }
 {
-    if x1.len() != x2.len() {
-        return Err(Refusal::OutOfDomain);
-    }
-    if x1.len() != lengthscales.len() {
-        return Err(Refusal::OutOfDomain);
+    if x1.len() != x2.len() || x1.len() != lengthscales.len() {
+        return Outcome::Refused(11);
     }
     Ok(distance(x1, x2, lengthscales))
 }
@@ -51,22 +48,14 @@ pub fn decay(r_sq: f64, sqrt5_r: f64, signal_var: f64) -> Result<f64, Refusal>
 }
 
 // The kernel of two points: 11 where the lists differ in length.
-pub fn matern52(
-    x1: &[f64],
-    x2: &[f64],
-    lengthscales: &[f64],
-    signal_var: f64,
-) -> Result<f64, Refusal>
+#[tactic(auto, unfolding(crate::specs::Matern::squared_of, crate::specs::Matern::matern52_of))]
+pub fn matern52(x1: &[f64], x2: &[f64], lengthscales: &[f64], signal_var: f64) -> Outcome
     ensures { result ≡ matern52_of x1.now x2.now lengthscales.now signal_var }
 {
-    if x1.len() != x2.len() {
-        return Err(Refusal::OutOfDomain);
+    match squared_distance(x1, x2, lengthscales) {
+        Outcome::Value(r_sq) => decay(r_sq, scaled_root(r_sq), signal_var),
+        refused => refused,
     }
-    if x1.len() != lengthscales.len() {
-        return Err(Refusal::OutOfDomain);
-    }
-    let r_sq = distance(x1, x2, lengthscales);
-    decay(r_sq, scaled_root(r_sq), signal_var)
 }
 
 // Points and lengthscales of one length have a value, whatever the floats: a theorem, as a contract.

@@ -9,7 +9,7 @@ use distribution::{Distribution, ParamValue};
 fn word(slot: &[u64], k: usize) -> u64
     ensures { result ≡ get_or slot.now k 0 }
 {
-    if k < slot.len() { slot[k] } else { 0 }
+    slot.get(k).copied().unwrap_or(0)
 }
 
 pub fn is_present(slot: &[u64]) -> bool
@@ -19,7 +19,8 @@ pub fn is_present(slot: &[u64]) -> bool
 }
 
 // What its six words of a distribution say.
-pub fn read(slot: &[u64]) -> Option<Distribution>
+#[tactic(auto, unfolding(crate::specs::Slot::slot_read))]
+pub fn read(slot: &[u64]) -> Read
     ensures { result ≡ slot_read slot.now }
 {
     distribution_words::distribution_of(
@@ -62,17 +63,11 @@ pub fn value(slot: &[u64]) -> ParamValue
 fn all_zero(slot: &[u64]) -> bool
     ensures { result ≡ every 8 (λ k. eqb (get_or slot.now k 0) 0) }
 {
-    let mut k = 0;
-    while k < 8 {
-        if word(slot, k) != 0 {
-            return false;
-        }
-        k += 1;
-    }
-    true
+    (0..8).all(|k| word(slot, k) == 0)
 }
 
 // Whether it is absent and all zero, or well-formed with a value that was taken.
+#[tactic(auto, unfolding(crate::specs::Slot::slot_ok))]
 pub fn slot_ok(slot: &[u64]) -> bool
     ensures { result ≡ slot_ok slot.now }
 {
@@ -94,18 +89,15 @@ pub fn has_id(id: u64, slot: &[u64]) -> bool
 pub fn same_id(a: &[u64], b: &[u64]) -> bool
     ensures { result ≡ same_id a.now b.now }
 {
-    is_present(a) && (is_present(b) && word(a, 0) == word(b, 0))
+    is_present(a) && is_present(b) && word(a, 0) == word(b, 0)
 }
 
 // Whether two distributions that were read are equal.
 pub fn reads_equal(a: Option<Distribution>, b: Option<Distribution>) -> bool
     ensures { result ≡ reads_equal a b }
 {
-    match a {
-        Some(d) => match b {
-            Some(e) => distribution::equal(d, e),
-            None => false,
-        },
-        None => false,
+    match (a, b) {
+        (Read::WellFormed(d), Read::WellFormed(e)) => distribution::equal(d, e),
+        _ => false,
     }
 }

@@ -1,7 +1,7 @@
 // Words as text: sixteen lower-case hexadecimal digits, the highest first.
 #![tactic(auto)]
 
-ghost use Rattle.std.specs.Prelude.{◌≡◌, ◌<◌};
+ghost use Rattle.std.specs.Prelude.{◌≡◌, ◌<◌, MatchOption};
 ghost use Rattle.word_text.specs.Digits.{digit_of, value_of, digits_of, parse_of};
 ghost use Rattle.word_text.specs.RoundTrip.{RoundTrip};
 
@@ -13,14 +13,11 @@ pub fn parse(s: &[u8]) -> Option<u64>
         return None;
     }
     let mut n: u64 = 0;
-    let mut i = 0;
-    while i < s.len() {
-        let v = value(s[i]);
-        if v >= 16 {
-            return None;
+    for b in s {
+        match value(*b) {
+            Some(v) => n = n * 16 + v,
+            None => return Parsed::Malformed,
         }
-        n = n * 16 + v;
-        i += 1;
     }
     Some(n)
 }
@@ -31,23 +28,21 @@ pub fn print(w: u64) -> [u8; 16]
 {
     let mut out = [0u8; 16];
     let mut rest = w;
-    let mut i = 0;
-    while i < 16 {
-        out[15 - i] = digit(rest % 16);
+    for i in (0..16).rev() {
+        out[i] = digit(rest % 16);
         rest /= 16;
-        i += 1;
     }
     out
 }
 
-// The value of a digit, and 16 of any other byte.
-fn value(b: u8) -> u64
-    ensures { result ≡ value_of b }
+// The value of a digit.
+fn value(b: u8) -> Option<u64>
+    ensures { MatchOption result (value_of b ≡ 16) (λ v. (v ≡ value_of b) × (v < 16)) }
 {
     match b {
-        b'0'..=b'9' => (b - b'0') as u64,
-        b'a'..=b'f' => (b - b'a') as u64 + 10,
-        _ => 16,
+        b'0'..=b'9' => Some(u64::from(b - b'0')),
+        b'a'..=b'f' => Some(u64::from(b - b'a') + 10),
+        _ => None,
     }
 }
 

@@ -1,6 +1,5 @@
-use Prim.Native.Nat.{◌≤◌, ◌-◌}
 use mathlib.Core.Path.{◌≡◌}
-use lib.ListN.{length, get_or}
+use lib.ListN.{get_or}
 use lib.Ieee.{nan, binary64, sub, div}
 use Rattle.arith.specs.Sums.{sum_over}
 use Rattle.kernel.specs.Matern.{square}
@@ -8,7 +7,4 @@ use Rattle.kernel.proofs.distance.Given as goal
 
 abbrev pub invariant-loop-i : goal.invariant-loop-i
 invariant-loop-i l =
-    (l.i ≤ length l.x1) × (l.r_sq ≡ sum_over l.i (λ j. square (div binary64 (sub binary64 (get_or l.x1 j nan) (get_or l.x2 j nan)) (get_or l.lengthscales j nan))))
-
-abbrev pub decreases-loop-i : goal.decreases-loop-i
-decreases-loop-i l = length l.x1 - l.i
+    l.r_sq ≡ sum_over l.i (λ j. square (div binary64 (sub binary64 (get_or l.x1 j nan) (get_or l.x2 j nan)) (get_or l.lengthscales j nan)))

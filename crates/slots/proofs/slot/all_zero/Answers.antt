@@ -1,23 +1,12 @@
--- `slots::slot::all_zero` meets its contract. Assumes nothing.
-use mathlib.Core.Path.{◌≡◌, refl, sym}
-use native.Mathlib.Numerals.{add-one}
-use native.Mathlib.Omega.{arith}
-use borrow.Author.Tests.{eq-eqb, ne_eqb}
-use Rattle.arith.specs.Lists.{every}
-use Rattle.arith.proofs.Lists.{every-not}
-use borrow.Author.Rules.{rules}
+-- `slots::slot::all_zero` meets its contract, by what `all` answers. Assumes nothing.
+use Rattle.std.proofs.Common.{◌≡◌, get_or, eqb, true, false, rules, refl}
+use Rattle.std.proofs.lemmas.Iterator.{cases_from_all, YieldsList-from_range}
+use borrow.Author.Tests.{tests}
+use Rattle.arith.proofs.Every.{all_below}
 use Rattle.slots.proofs.slot.all_zero.Goals as goal
 
-pub loop-k-init : goal.loop-k-init
-unfolding every
-loop-k-init c = (omega arith, refl)
-
-pub returns-then-word-ne0 : goal.returns-then-word-ne0
-returns-then-word-ne0 c = sym (every-not 8 _ c.loop-k.k c.loop-k-test.true (rw (sym c.word.ensures) (ne_eqb _ _ c.if-word-ne0.true)))
-
-pub loop-k-preserved : goal.loop-k-preserved
-unfolding every
-loop-k-preserved c = (search rules, rw (add-one, c.loop-k.invariant.1, sym c.word.ensures, eq-eqb _ _ c.if-word-ne0.false))
-
 pub returns : goal.returns
-returns c = let e : c.loop-k.k ≡ 8 = omega arith in rw (sym e) (sym c.loop-k.invariant.1)
+returns c =
+    let zero = λ (k : _). eqb (get_or c.args.slot.now k 0) 0 in
+    all_below 8 zero c.all.result
+    (cases_from_all _ _ _ (λ k. zero k ≡ true) (λ k. zero k ≡ false) c.all.ensures.ran (YieldsList-from_range 0 8 8 refl refl) (λ x q k. search (rules, tests)) (λ x q k. search (rules, tests)))
