@@ -28,6 +28,7 @@ fn refused(number: u64) -> Fit
 }
 
 // Whether a fit takes these rows of d columns and these values.
+#[tactic(auto, unfolding(crate::specs::Fit::fit_domain))]
 fn in_domain(x: &[f64], y: &[f64], d: usize) -> bool
     ensures { result ≡ fit_domain x.now y.now d }
 {
@@ -56,11 +57,7 @@ fn copied(x: &[f64]) -> [f64; 2000]
     ensures { result ≡ padded 2000 x.now }
 {
     let mut out = [0.0; 2000];
-    let mut i = 0;
-    while i < x.len() {
-        out[i] = x[i];
-        i += 1;
-    }
+    out[..x.len()].copy_from_slice(x);
     out
 }
 
@@ -115,6 +112,7 @@ fn fitted(x: &[f64], y: &[f64], d: usize, noise_var: f64) -> Fit
 }
 
 // The model of n rows of d columns, row after row, and n values: 11 outside its domain, 12 without rows, 13 where a pivot is not above 0.
+#[tactic(auto, unfolding(crate::specs::Fit::fit_of))]
 pub fn fit_gp(x: &[f64], y: &[f64], d: usize, noise_var: f64) -> Fit
     ensures { result ≡ fit_of x.now y.now d noise_var }
 {

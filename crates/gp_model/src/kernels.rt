@@ -22,6 +22,7 @@ pub fn similarity(x1: &[f64], x2: &[f64], lengthscales: &[f64]) -> f64
 }
 
 // Entry (i, j) of K + σ² I.
+#[tactic(auto, using(crate::proofs::Table::row_before), unfolding(crate::specs::Kernels::covariance_of))]
 fn covariance(x: &[f64], d: usize, lengthscales: &[f64], noise_var: f64, i: usize, j: usize) -> f64
     requires { (j ≤ i) × (i * d + d ≤ length x.now) × (length lengthscales.now ≡ d) }
     ensures { result ≡ covariance_of x.now d lengthscales.now noise_var i j }
@@ -43,10 +44,8 @@ fn kernel_row(
     ensures { out.new ≡ padded 5050 (rows_of (covariance_of x.now d lengthscales.now noise_var) (i + 1)) }
 {
     let start = i * (i + 1) / 2;
-    let mut j = 0;
-    while j <= i {
+    for j in 0..i + 1 {
         out[start + j] = covariance(x, d, lengthscales, noise_var, i, j);
-        j += 1;
     }
 }
 
@@ -62,10 +61,8 @@ pub(crate) fn kernel_matrix(
     ensures { result ≡ kernel_matrix_of x.now n d lengthscales.now noise_var }
 {
     let mut out = [0.0; 5050];
-    let mut i = 0;
-    while i < n {
+    for i in 0..n {
         kernel_row(&mut out, x, d, lengthscales, noise_var, i);
-        i += 1;
     }
     out
 }

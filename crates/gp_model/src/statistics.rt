@@ -8,47 +8,38 @@ ghost use Rattle.gp_model.specs.Statistics.{all_within, column_of, squares_of, m
 pub fn all_within(xs: &[f64], limit: f64) -> bool
     ensures { result ≡ all_within limit xs.now }
 {
-    let mut i = 0;
-    while i < xs.len() {
-        if arith::abs(xs[i]) <= limit {
-            i += 1;
-        } else {
-            return false;
-        }
-    }
-    true
+    xs.iter().all(|x| arith::abs(*x) <= limit)
 }
 
 // The sum of column j of n rows of d columns.
+#[tactic(auto, unfolding(arith::specs::Sums::sum_over))]
 fn column_sum(x: &[f64], n: usize, d: usize, j: usize) -> f64
     requires { (j < d) × (n ≤ 100) × (d ≤ 20) × (length x.now ≡ n * d) }
     ensures { result ≡ sum_over n (column_of x.now d j) }
 {
     let mut total = 0.0;
-    let mut i = 0;
-    while i < n {
+    for i in 0..n {
         total = total + x[i * d + j];
-        i += 1;
     }
     total
 }
 
 // The sum of the squares of its distances from m.
+#[tactic(auto, unfolding(arith::specs::Sums::sum_over))]
 fn column_squares(x: &[f64], n: usize, d: usize, j: usize, m: f64) -> f64
     requires { (j < d) × (n ≤ 100) × (d ≤ 20) × (length x.now ≡ n * d) }
     ensures { result ≡ squares_of n (column_of x.now d j) m }
 {
     let mut total = 0.0;
-    let mut i = 0;
-    while i < n {
+    for i in 0..n {
         let e = x[i * d + j] - m;
         total = total + e * e;
-        i += 1;
     }
     total
 }
 
 // Its mean.
+#[tactic(auto, unfolding(crate::specs::Statistics::mean_of))]
 fn mean(x: &[f64], n: usize, d: usize, j: usize) -> f64
     requires { (j < d) × (n ≤ 100) × (d ≤ 20) × (length x.now ≡ n * d) }
     ensures { result ≡ mean_of n (column_of x.now d j) }
@@ -57,6 +48,7 @@ fn mean(x: &[f64], n: usize, d: usize, j: usize) -> f64
 }
 
 // Its variance over k.
+#[tactic(auto, unfolding(crate::specs::Statistics::variance_of))]
 fn variance(x: &[f64], n: usize, d: usize, j: usize, k: usize) -> f64
     requires { (j < d) × (n ≤ 100) × (d ≤ 20) × (length x.now ≡ n * d) × (k ≤ 100) }
     ensures { result ≡ variance_of n k (column_of x.now d j) }
@@ -84,10 +76,8 @@ pub(crate) fn standardized(y: &[f64]) -> [f64; 100]
     let y_mean = mean(y, y.len(), 1, 0);
     let y_std = value_deviation(y);
     let mut out = [0.0; 100];
-    let mut i = 0;
-    while i < y.len() {
-        out[i] = (y[i] - y_mean) / y_std;
-        i += 1;
+    for (i, v) in y.iter().enumerate() {
+        out[i] = (*v - y_mean) / y_std;
     }
     out
 }
@@ -98,10 +88,8 @@ pub(crate) fn lengthscales(x: &[f64], n: usize, d: usize) -> [f64; 20]
     ensures { result ≡ padded 20 (lengthscales_of x.now n d) }
 {
     let mut out = [0.0; 20];
-    let mut j = 0;
-    while j < d {
+    for j in 0..d {
         out[j] = arith::at_least(root::sqrt(variance(x, n, d, j, n)), 0.01);
-        j += 1;
     }
     out
 }

@@ -1,4 +1,3 @@
-use Prim.Native.Nat.{◌-◌, ◌≤◌}
 use mathlib.Core.Path.{◌≡◌}
 use Rattle.arith.specs.Lists.{padded}
 use Rattle.factor.specs.Triangle.{rows_of}
@@ -6,7 +5,4 @@ use Rattle.gp_model.specs.Kernels.{covariance_of}
 use Rattle.gp_model.proofs.kernels.kernel_matrix.Given as goal
 
 abbrev pub invariant-loop-i : goal.invariant-loop-i
-invariant-loop-i l = (l.i ≤ l.n) × (l.out ≡ padded 5050 (rows_of (covariance_of l.x l.d l.lengthscales l.noise_var) l.i))
-
-abbrev pub decreases-loop-i : goal.decreases-loop-i
-decreases-loop-i l = l.n - l.i
+invariant-loop-i l = l.out ≡ padded 5050 (rows_of (covariance_of l.x l.d l.lengthscales l.noise_var) l.i)

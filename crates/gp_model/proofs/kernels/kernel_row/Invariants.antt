@@ -1,4 +1,3 @@
-use Prim.Native.Nat.{◌+◌, ◌-◌, ◌≤◌}
 use mathlib.Core.Path.{◌≡◌}
 use Rattle.arith.specs.Lists.{padded}
 use Rattle.factor.proofs.Triangle.{filled}
@@ -7,7 +6,4 @@ use Rattle.gp_model.proofs.kernels.kernel_row.Given as goal
 
 abbrev pub invariant-loop-j : goal.invariant-loop-j
 invariant-loop-j l =
-    (l.j ≤ l.i + 1) × (l.out ≡ padded 5050 (filled (covariance_of l.x l.d l.lengthscales l.noise_var) l.i l.j))
-
-abbrev pub decreases-loop-j : goal.decreases-loop-j
-decreases-loop-j l = l.i + 1 - l.j
+    l.out ≡ padded 5050 (filled (covariance_of l.x l.d l.lengthscales l.noise_var) l.i l.j)

@@ -1,4 +1,3 @@
-use Prim.Native.Nat.{◌-◌, ◌≤◌}
 use mathlib.Core.Path.{◌≡◌}
 use lib.Ieee.{binary64, sub}
 use Rattle.arith.specs.Sums.{sum_over}
@@ -7,7 +6,4 @@ use Rattle.gp_model.specs.Statistics.{column_of}
 use Rattle.gp_model.proofs.statistics.column_squares.Given as goal
 
 abbrev pub invariant-loop-i : goal.invariant-loop-i
-invariant-loop-i l = (l.i ≤ l.n) × (l.total ≡ sum_over l.i (λ k. square (sub binary64 (column_of l.x l.d l.j k) l.m)))
-
-abbrev pub decreases-loop-i : goal.decreases-loop-i
-decreases-loop-i l = l.n - l.i
+invariant-loop-i l = l.total ≡ sum_over l.i (λ k. square (sub binary64 (column_of l.x l.d l.j k) l.m))

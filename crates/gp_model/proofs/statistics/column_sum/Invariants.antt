@@ -1,11 +1,7 @@
-use Prim.Native.Nat.{◌-◌, ◌≤◌}
 use mathlib.Core.Path.{◌≡◌}
 use Rattle.arith.specs.Sums.{sum_over}
 use Rattle.gp_model.specs.Statistics.{column_of}
 use Rattle.gp_model.proofs.statistics.column_sum.Given as goal
 
 abbrev pub invariant-loop-i : goal.invariant-loop-i
-invariant-loop-i l = (l.i ≤ l.n) × (l.total ≡ sum_over l.i (column_of l.x l.d l.j))
-
-abbrev pub decreases-loop-i : goal.decreases-loop-i
-decreases-loop-i l = l.n - l.i
+invariant-loop-i l = l.total ≡ sum_over l.i (column_of l.x l.d l.j)
