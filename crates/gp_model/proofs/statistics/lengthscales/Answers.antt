@@ -16,6 +16,6 @@ pub loop-j-preserved : goal.loop-j-preserved
 unfolding lengthscale_of of_bits
 loop-j-preserved c =
     let l = c.loop-j in
-    let a = c.args in
-    let e : c.at_least.result ≡ lengthscale_of a.x.now a.n a.d l.j = rw (c.at_least.ensures, c.sqrt.ensures, c.variance.ensures) in
-    rw (e, l.invariant, add-one) (grown-set 20 (λ xs j. lengthscale_of a.x.now a.n a.d j) l.j (omega arith))
+    let a = c.args.x.now in
+    let e : c.at_least.result ≡ lengthscale_of a.cells.now a.n a.d l.j = rw (c.at_least.ensures, c.sqrt.ensures, c.variance.ensures) in
+    rw (e, l.invariant, add-one) (grown-set 20 (λ xs j. lengthscale_of a.cells.now a.n a.d j) l.j (omega arith))

@@ -1,9 +1,0 @@
--- `gp_model::kernels::kernel_matrix` meets its contract: before each turn the array holds the rows passed. Assumes nothing.
-use mathlib.Core.Path.{refl}
-use lib.Ieee.{of_bits}
-use Rattle.factor.specs.Triangle.{rows_of}
-use Rattle.gp_model.proofs.kernels.kernel_matrix.Goals as goal
-
-pub loop-i-init : goal.loop-i-init
-unfolding rows_of of_bits
-loop-i-init c = refl
