@@ -24,13 +24,9 @@ back-length l z n zero = refl
 back-length l z n (suc m) = ap suc (back-length l z n m)
 
 -- with no unknown known, the list is z
-pub back_none : (l z : List Float) (n : ℕ) → length z ≡ n → z ≡ take (n - 0) z ++ backward_of l z n 0
+pub back_none : (l z : List Float) (n : ℕ) → length z ≡ n → z ≡ take n z ++ backward_of l z n 0
 unfolding backward_of
-back_none l z n h = sym (rw append-nil (take_all (n - 0) z (omega arith)))
-
--- with all of them, it is the solution
-pub back-all : (l z : List Float) (n m : ℕ) → m ≡ n → take (n - m) z ++ backward_of l z n m ≡ backward_of l z n n
-back-all l z n m e = let none : n - n ≡ 0 = omega arith in rw (e, none)
+back_none l z n h = sym (rw append-nil (take_all n z (omega arith)))
 
 -- an array with zeros behind n elements
 pub front_length : (x : List Float) (n : ℕ) → n ≤ 100 → x ≡ padded 100 (take n x) → length (take n x) ≡ n

@@ -9,6 +9,7 @@ ghost use Rattle.factor.specs.Cholesky.{columns_of, factor_of, rest_of, positive
 use crate::{Factor, place};
 
 // a less the products of the rows i and j before column j.
+#[tactic(auto, unfolding(crate::specs::Triangle::less_of))]
 fn rest(l: &[f64; 5050], a: f64, i: usize, j: usize) -> f64
     requires { (i < 100) × (j ≤ i) }
     ensures { result ≡ less_of j (entry l.now i) (entry l.now j) a }
@@ -16,10 +17,8 @@ fn rest(l: &[f64; 5050], a: f64, i: usize, j: usize) -> f64
     let p = place(i, 0);
     let q = place(j, 0);
     let mut s = a;
-    let mut k = 0;
-    while k < j {
+    for k in 0..j {
         s = s - l[p + k] * l[q + k];
-        k += 1;
     }
     s
 }
@@ -30,13 +29,10 @@ fn left(l: &mut [f64; 5050], a: &[f64; 5050], i: usize)
     ensures { l.new ≡ padded 5050 (rows_of (factor_of (entry a.now)) i ++ list_of (factor_of (entry a.now) i) i) }
 {
     let p = place(i, 0);
-    let mut j = 0;
-    while j < i {
+    for j in 0..i {
         let v = rest(l, a[p + j], i, j);
-        let d = place(j, j);
-        let root = l[d];
+        let root = l[place(j, j)];
         l[p + j] = v / root;
-        j += 1;
     }
 }
 
@@ -60,12 +56,10 @@ fn rows(l: &mut [f64; 5050], a: &[f64; 5050], n: usize) -> bool
     requires { (n ≤ 100) × (l.old ≡ padded 5050 []) }
     ensures { (result ≡ positive (entry a.now) n) × (result ≡ true → l.new ≡ padded 5050 (rows_of (factor_of (entry a.now)) n)) }
 {
-    let mut i = 0;
-    while i < n {
+    for i in 0..n {
         if !row(l, a, i) {
             return false;
         }
-        i += 1;
     }
     true
 }
@@ -81,6 +75,7 @@ fn refused(number: u64) -> Factor
 }
 
 // The factor of the first n rows of a packed matrix: 11 over 100 rows, 13 where a pivot is not above 0.
+#[tactic(auto, unfolding(crate::specs::Cholesky::cholesky_of))]
 pub fn cholesky(a: &[f64; 5050], n: usize) -> Factor
     ensures { result ≡ cholesky_of a.now n }
 {

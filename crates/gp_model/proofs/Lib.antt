@@ -1,3 +1,4 @@
+pub mod All
 pub mod Cases
 pub mod Domain
 pub mod Table

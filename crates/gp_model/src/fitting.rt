@@ -1,12 +1,14 @@
 // The fit.
-ghost use Rattle.std.specs.Prelude.{◌≡◌, length, ◌*◌, ◌≤◌, ◌<◌};
+ghost use Rattle.std.specs.Prelude.{◌≡◌, length, ◌≤◌, ◌<◌};
 ghost use Rattle.arith.specs.Lists.{padded};
 ghost use Rattle.factor.specs.Cholesky.{cholesky_of};
 ghost use Rattle.gp_model.specs.Fit.{fit_domain, refused_of, model_of, fitted_of, fit_of};
 ghost use Rattle.gp_model.specs.Kernels.{kernel_matrix_of};
 ghost use Rattle.gp_model.specs.Statistics.{lengthscales_of};
 
-use crate::{Fit, Model, kernels, statistics};
+use crate::kernels::Covariances;
+use crate::tables::Table;
+use crate::{Fit, Model, statistics};
 use factor::Factor;
 
 // A refusal: its number, with a model of zeros.
@@ -28,26 +30,16 @@ fn refused(number: u64) -> Fit
 }
 
 // Whether a fit takes these rows of d columns and these values.
+#[tactic(auto, unfolding(crate::specs::Fit::fit_domain))]
 fn in_domain(x: &[f64], y: &[f64], d: usize) -> bool
     ensures { result ≡ fit_domain x.now y.now d }
 {
-    let n = y.len();
-    if n > 100 {
-        return false;
-    }
-    if d < 1 {
-        return false;
-    }
-    if d > 20 {
-        return false;
-    }
-    if x.len() != n * d {
-        return false;
-    }
-    if !statistics::all_within(x, 1e32) {
-        return false;
-    }
-    statistics::all_within(y, 4503599627370496.0)
+    y.len() <= 100
+        && 1 <= d
+        && d <= 20
+        && x.len() == y.len() * d
+        && statistics::all_within(x, 1e32)
+        && statistics::all_within(y, 4503599627370496.0)
 }
 
 // The rows in an array.
@@ -56,34 +48,34 @@ fn copied(x: &[f64]) -> [f64; 2000]
     ensures { result ≡ padded 2000 x.now }
 {
     let mut out = [0.0; 2000];
-    let mut i = 0;
-    while i < x.len() {
-        out[i] = x[i];
-        i += 1;
-    }
+    out[..x.len()].copy_from_slice(x);
     out
 }
 
 // The factor of the kernel matrix.
-fn factored(x: &[f64], n: usize, d: usize, lengthscales: &[f64], noise_var: f64) -> Factor
-    requires { (n ≤ 100) × (n * d ≤ length x.now) × (length lengthscales.now ≡ d) }
-    ensures { result ≡ cholesky_of (kernel_matrix_of x.now n d lengthscales.now noise_var) n }
+fn factored(x: &Table, lengthscales: &[f64], noise_var: f64) -> Factor
+    requires { length lengthscales.now ≡ x.now.d }
+    ensures { result ≡ cholesky_of (kernel_matrix_of x.now.cells.now x.now.n x.now.d lengthscales.now noise_var) x.now.n }
 {
-    let k = kernels::kernel_matrix(x, n, d, lengthscales, noise_var);
-    factor::cholesky(&k, n)
+    let covariances = Covariances {
+        x: *x,
+        lengthscales,
+        noise_var,
+    };
+    factor::cholesky(&covariances.lower_triangle(), x.n)
 }
 
 // The model of a factor.
-fn model(x: &[f64], y: &[f64], d: usize, lengthscales: [f64; 20], cholesky: [f64; 5050]) -> Model
-    requires { (0 < length y.now) × (length y.now ≤ 100) × (length x.now ≤ 2000) × (lengthscales ≡ padded 20 (lengthscales_of x.now (length y.now) d)) }
-    ensures { result ≡ model_of x.now y.now d cholesky }
+fn model(x: &Table, y: &[f64], lengthscales: [f64; 20], cholesky: [f64; 5050]) -> Model
+    requires { (0 < length y.now) × (length y.now ≡ x.now.n) × (lengthscales ≡ padded 20 (lengthscales_of x.now.cells.now x.now.n x.now.d)) }
+    ensures { result ≡ model_of x.now.cells.now y.now x.now.d cholesky }
 {
-    let n = y.len();
+    let n = x.n;
     let values = statistics::standardized(y);
-    let f_best = arith::least(&values[0..n]);
+    let f_best = arith::least(&values[..n]);
     let solved = factor::solve(&cholesky, &values, n);
     let alpha = solved.x;
-    let x_train = copied(x);
+    let x_train = copied(x.cells);
     Model {
         x_train,
         lengthscales,
@@ -91,18 +83,17 @@ fn model(x: &[f64], y: &[f64], d: usize, lengthscales: [f64; 20], cholesky: [f64
         alpha,
         f_best,
         n,
-        d,
+        d: x.d,
     }
 }
 
 // The fit of at least one row.
-fn fitted(x: &[f64], y: &[f64], d: usize, noise_var: f64) -> Fit
-    requires { (0 < length y.now) × (length y.now ≤ 100) × (d ≤ 20) × (length x.now ≡ length y.now * d) }
-    ensures { result ≡ fitted_of x.now y.now d noise_var }
+fn fitted(x: &Table, y: &[f64], noise_var: f64) -> Fit
+    requires { (0 < length y.now) × (length y.now ≡ x.now.n) }
+    ensures { result ≡ fitted_of x.now.cells.now y.now x.now.d noise_var }
 {
-    let n = y.len();
-    let lengthscales = statistics::lengthscales(x, n, d);
-    let factor = factored(x, n, d, &lengthscales[0..d], noise_var);
+    let lengthscales = statistics::lengthscales(x);
+    let factor = factored(x, &lengthscales[..x.d], noise_var);
     let number = factor.number;
     if number != 0 {
         return refused(number);
@@ -110,19 +101,21 @@ fn fitted(x: &[f64], y: &[f64], d: usize, noise_var: f64) -> Fit
     let cholesky = factor.l;
     Fit {
         number: 0,
-        model: model(x, y, d, lengthscales, cholesky),
+        model: model(x, y, lengthscales, cholesky),
     }
 }
 
 // The model of n rows of d columns, row after row, and n values: 11 outside its domain, 12 without rows, 13 where a pivot is not above 0.
+#[tactic(auto, unfolding(crate::specs::Fit::fit_of))]
 pub fn fit_gp(x: &[f64], y: &[f64], d: usize, noise_var: f64) -> Fit
     ensures { result ≡ fit_of x.now y.now d noise_var }
 {
     if !in_domain(x, y, d) {
         return refused(11);
     }
-    if y.len() == 0 {
+    if y.is_empty() {
         return refused(12);
     }
-    fitted(x, y, d, noise_var)
+    let n = y.len();
+    fitted(&Table { cells: x, n, d }, y, noise_var)
 }

@@ -1,18 +1,10 @@
 // The kernel at signal variance 1, over the rows of a table.
-ghost use Rattle.std.specs.Prelude.{◌≡◌, ◌+◌, ◌*◌, ◌≤◌, ◌<◌, length};
+ghost use Rattle.std.specs.Prelude.{◌≡◌, ◌+◌, ◌≤◌, ◌<◌, length};
 ghost use Rattle.arith.specs.Lists.{padded};
 ghost use Rattle.factor.specs.Triangle.{rows_of};
-ghost use Rattle.gp_model.specs.Kernels.{row_of, similarity_of, covariance_of, kernel_matrix_of};
+ghost use Rattle.gp_model.specs.Kernels.{similarity_of, covariance_of, kernel_matrix_of};
 
-// Row i of a table of d columns.
-fn row(x: &[f64], d: usize, i: usize) -> &[f64]
-    requires { i * d + d ≤ length x.now }
-    ensures { (result.now ≡ row_of x.now d i) × (length result.now ≡ d) }
-{
-    let start = i * d;
-    let end = start + d;
-    &x[start..end]
-}
+use crate::tables::Table;
 
 // The kernel of two points.
 pub fn similarity(x1: &[f64], x2: &[f64], lengthscales: &[f64]) -> f64
@@ -21,51 +13,45 @@ pub fn similarity(x1: &[f64], x2: &[f64], lengthscales: &[f64]) -> f64
     arith::value(kernel::matern52(x1, x2, lengthscales, 1.0))
 }
 
-// Entry (i, j) of K + σ² I.
-fn covariance(x: &[f64], d: usize, lengthscales: &[f64], noise_var: f64, i: usize, j: usize) -> f64
-    requires { (j ≤ i) × (i * d + d ≤ length x.now) × (length lengthscales.now ≡ d) }
-    ensures { result ≡ covariance_of x.now d lengthscales.now noise_var i j }
-{
-    let k = similarity(row(x, d, i), row(x, d, j), lengthscales);
-    if i == j { k + noise_var } else { k }
+// K + σ² I, for the rows of a table.
+#[derive(Drop)]
+pub(crate) struct Covariances<'a> {
+    pub(crate) x: Table<'a>,
+    pub(crate) lengthscales: &'a [f64],
+    pub(crate) noise_var: f64,
+    ghost one_each: { length lengthscales.now ≡ x.d },
 }
 
-// Row i of its lower triangle, written behind the rows before it.
-fn kernel_row(
-    out: &mut [f64; 5050],
-    x: &[f64],
-    d: usize,
-    lengthscales: &[f64],
-    noise_var: f64,
-    i: usize,
-)
-    requires { (i < 100) × (i * d + d ≤ length x.now) × (length lengthscales.now ≡ d) × (out.old ≡ padded 5050 (rows_of (covariance_of x.now d lengthscales.now noise_var) i)) }
-    ensures { out.new ≡ padded 5050 (rows_of (covariance_of x.now d lengthscales.now noise_var) (i + 1)) }
-{
-    let start = i * (i + 1) / 2;
-    let mut j = 0;
-    while j <= i {
-        out[start + j] = covariance(x, d, lengthscales, noise_var, i, j);
-        j += 1;
+impl<'a> Covariances<'a> {
+    // Entry (i, j).
+    #[tactic(auto, unfolding(crate::specs::Kernels::covariance_of))]
+    fn entry(&self, i: usize, j: usize) -> f64
+        requires { (i < self.now.x.n) × (j ≤ i) }
+        ensures { result ≡ covariance_of self.now.x.cells.now self.now.x.d self.now.lengthscales.now self.now.noise_var i j }
+    {
+        let k = similarity(self.x.row(i), self.x.row(j), self.lengthscales);
+        if i == j { k + self.noise_var } else { k }
     }
-}
 
-// The lower triangle of K + σ² I, packed.
-pub(crate) fn kernel_matrix(
-    x: &[f64],
-    n: usize,
-    d: usize,
-    lengthscales: &[f64],
-    noise_var: f64,
-) -> [f64; 5050]
-    requires { (n ≤ 100) × (n * d ≤ length x.now) × (length lengthscales.now ≡ d) }
-    ensures { result ≡ kernel_matrix_of x.now n d lengthscales.now noise_var }
-{
-    let mut out = [0.0; 5050];
-    let mut i = 0;
-    while i < n {
-        kernel_row(&mut out, x, d, lengthscales, noise_var, i);
-        i += 1;
+    // Row i of the lower triangle, written behind the rows before it.
+    fn write_row(&self, out: &mut [f64; 5050], i: usize)
+        requires { (i < self.now.x.n) × (out.old ≡ padded 5050 (rows_of (covariance_of self.now.x.cells.now self.now.x.d self.now.lengthscales.now self.now.noise_var) i)) }
+        ensures { out.new ≡ padded 5050 (rows_of (covariance_of self.now.x.cells.now self.now.x.d self.now.lengthscales.now self.now.noise_var) (i + 1)) }
+    {
+        let start = i * (i + 1) / 2;
+        for j in 0..i + 1 {
+            out[start + j] = self.entry(i, j);
+        }
     }
-    out
+
+    // The lower triangle, packed.
+    pub(crate) fn lower_triangle(&self) -> [f64; 5050]
+        ensures { result ≡ kernel_matrix_of self.now.x.cells.now self.now.x.n self.now.x.d self.now.lengthscales.now self.now.noise_var }
+    {
+        let mut out = [0.0; 5050];
+        for i in 0..self.x.n {
+            self.write_row(&mut out, i);
+        }
+        out
+    }
 }

@@ -4,6 +4,7 @@
 pub mod fitting;
 pub mod kernels;
 pub mod statistics;
+mod tables;
 
 pub use fitting::fit_gp;
 pub use kernels::similarity;

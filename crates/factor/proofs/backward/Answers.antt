@@ -1,28 +1,23 @@
--- `factor::backward` meets its contract: before each turn the last m unknowns are known. Assumes nothing.
+-- `factor::backward` meets its contract: before each turn the unknowns from i on are known. Assumes nothing.
 use Prim.Native.Nat.{suc, ◌+◌, ◌-◌}
 use mathlib.Core.Path.{◌≡◌, ap, ◌∙◌}
-use native.Mathlib.Numerals.{add-one}
 use native.Mathlib.Omega.{arith}
-use borrow.Author.Rules.{rules}
 use lib.ListN.{take}
 use Rattle.arith.specs.Lists.{padded}
-use Rattle.factor.proofs.Back.{back_none, back-all, back-next, front_length}
+use Rattle.factor.proofs.Back.{back_none, back-next, front_length}
 use Rattle.factor.proofs.backward.Goals as goal
 
-pub loop-m-init : goal.loop-m-init
-loop-m-init c = (omega arith, c.requires.1 ∙ ap (padded 100) (back_none _ _ _ (front_length _ _ c.requires.0 c.requires.1)))
+pub loop-i-init : goal.loop-i-init
+loop-i-init c =
+    let none : c.args.n - c.args.n ≡ 0 = omega arith in
+    c.requires.1 ∙ rw none (ap (padded 100) (back_none _ _ _ (front_length _ _ c.requires.0 c.requires.1)))
 
-pub loop-m-preserved : goal.loop-m-preserved
-loop-m-preserved c =
+pub loop-i-preserved : goal.loop-i-preserved
+loop-i-preserved c =
     let n = c.args.n in
-    let m = c.loop-m.m in
-    let i = n - 1 - m in
-    let here : n - m ≡ suc i = omega arith in
-    let next : n - (m + 1) ≡ i = omega arith in (
-      search rules,
-      rw (next, add-one m)
-          (back-next c.args.l.now (take n c.args.x.now) c.loop-m.x n m i c.unknown.result (front_length _ n (omega arith) c.requires.1) (omega arith) (rw here at c.loop-m.invariant.1) c.unknown.ensures),
-    )
-
-pub returns : goal.returns
-returns c = c.loop-m.invariant.1 ∙ ap (padded 100) (back-all _ _ _ _ (omega arith))
+    let i = c.loop-i.i - 1 in
+    let m = n - c.loop-i.i in
+    let here : c.loop-i.i ≡ suc i = omega arith in
+    let before : n - i ≡ suc m = omega arith in
+    let behind : n - (i + 1) ≡ m = omega arith in
+    rw before (back-next c.args.l.now (take n c.args.x.now) c.loop-i.x n m i _ (front_length _ n c.requires.0 c.requires.1) (omega arith) (rw (← here) c.loop-i.invariant) (rw behind at c.unknown.ensures))

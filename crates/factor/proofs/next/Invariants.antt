@@ -1,4 +1,3 @@
-use Prim.Native.Nat.{◌≤◌, ◌-◌}
 use mathlib.Core.Path.{◌≡◌}
 use lib.ListN.{get_or}
 use lib.Ieee.{nan}
@@ -6,7 +5,4 @@ use Rattle.factor.specs.Triangle.{entry, less_of}
 use Rattle.factor.proofs.next.Given as goal
 
 abbrev pub invariant-loop-k : goal.invariant-loop-k
-invariant-loop-k l = (l.k ≤ l.i) × (l.s ≡ less_of l.k (entry l.l l.i) (λ n. get_or l.z n nan) (get_or l.b l.i nan))
-
-abbrev pub decreases-loop-k : goal.decreases-loop-k
-decreases-loop-k l = l.i - l.k
+invariant-loop-k l = l.s ≡ less_of l.k (entry l.l l.i) (λ n. get_or l.z n nan) (get_or l.b l.i nan)

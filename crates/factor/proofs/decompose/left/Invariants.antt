@@ -1,4 +1,3 @@
-use Prim.Native.Nat.{◌≤◌, ◌-◌}
 use mathlib.Core.Path.{◌≡◌}
 use Rattle.arith.specs.Lists.{padded}
 use Rattle.factor.specs.Triangle.{entry}
@@ -7,7 +6,4 @@ use Rattle.factor.proofs.Triangle.{filled}
 use Rattle.factor.proofs.decompose.left.Given as goal
 
 abbrev pub invariant-loop-j : goal.invariant-loop-j
-invariant-loop-j l = (l.j ≤ l.i) × (l.l ≡ padded 5050 (filled (factor_of (entry l.a)) l.i l.j))
-
-abbrev pub decreases-loop-j : goal.decreases-loop-j
-decreases-loop-j l = l.i - l.j
+invariant-loop-j l = l.l ≡ padded 5050 (filled (factor_of (entry l.a)) l.i l.j)

@@ -2,7 +2,6 @@
 use mathlib.Core.Path.{◌≡◌, refl, sym, ◌∙◌}
 use native.Mathlib.Numerals.{add-one}
 use native.Mathlib.Omega.{arith}
-use borrow.Author.Rules.{rules}
 use mathlib.Core.Bool.{true, false, true≢false}
 use Rattle.arith.specs.Lists.{every}
 use Rattle.factor.specs.Triangle.{rows_of}
@@ -11,7 +10,7 @@ use Rattle.factor.proofs.decompose.rows.Goals as goal
 
 pub loop-i-init : goal.loop-i-init
 unfolding rows_of every
-loop-i-init c = (omega arith, c.requires.1, refl)
+loop-i-init c = (c.requires.1, refl)
 
 pub returns-then-not-row : goal.returns-then-not-row
 returns-then-not-row c =
@@ -22,7 +21,4 @@ pub loop-i-preserved : goal.loop-i-preserved
 unfolding every
 loop-i-preserved c =
     let yes : c.row.result ≡ true = c.if-not-row.false in
-    (search rules, c.row.ensures.1 yes, rw (add-one c.loop-i.i, c.loop-i.invariant.2) (sym c.row.ensures.0 ∙ yes))
-
-pub returns : goal.returns
-returns c = let e : c.loop-i.i ≡ c.args.n = omega arith in (sym c.loop-i.invariant.2 ∙ rw e, λ z. c.loop-i.invariant.1 ∙ rw e)
+    (c.row.ensures.1 yes, rw (add-one c.loop-i.i, c.loop-i.invariant.1) (sym c.row.ensures.0 ∙ yes))

@@ -1,4 +1,3 @@
-use Prim.Native.Nat.{◌≤◌, ◌-◌}
 use mathlib.Core.Path.{◌≡◌}
 use mathlib.Core.Bool.{true}
 use Rattle.arith.specs.Lists.{padded}
@@ -7,7 +6,4 @@ use Rattle.factor.specs.Cholesky.{factor_of, positive}
 use Rattle.factor.proofs.decompose.rows.Given as goal
 
 abbrev pub invariant-loop-i : goal.invariant-loop-i
-invariant-loop-i l = (l.i ≤ l.n) × (l.l ≡ padded 5050 (rows_of (factor_of (entry l.a)) l.i)) × (positive (entry l.a) l.i ≡ true)
-
-abbrev pub decreases-loop-i : goal.decreases-loop-i
-decreases-loop-i l = l.n - l.i
+invariant-loop-i l = (l.l ≡ padded 5050 (rows_of (factor_of (entry l.a)) l.i)) × (positive (entry l.a) l.i ≡ true)

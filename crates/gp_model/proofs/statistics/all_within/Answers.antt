@@ -1,28 +1,17 @@
--- `gp_model::statistics::all_within` meets its contract: before each turn the test holds of the elements passed. Assumes nothing.
-use mathlib.Core.Path.{◌≡◌, refl, sym}
-use native.Mathlib.Numerals.{add-one}
-use native.Mathlib.Omega.{arith}
-use lib.ListN.{length}
-use Rattle.arith.specs.Lists.{every}
-use Rattle.arith.proofs.Lists.{every-not}
+-- `gp_model::statistics::all_within` meets its contract. Assumes nothing.
+use mathlib.Core.Path.{◌∙◌}
+use Rattle.std.proofs.Common.{rules, tests}
+use Rattle.std.proofs.lemmas.Iterator.{YieldsList-from_slice}
+use Rattle.std.proofs.lemmas.Iterator.Search.{all_from_yields_List}
+use lib.Ieee.{Float, nan, le}
+use Rattle.arith.specs.Bounds.{abs}
 use Rattle.gp_model.specs.Statistics.{all_within}
-use borrow.Author.Rules.{rules}
+use Rattle.gp_model.proofs.All.{all-every}
 use Rattle.gp_model.proofs.statistics.all_within.Goals as goal
-
-pub loop-i-init : goal.loop-i-init
-unfolding every
-loop-i-init c = (omega arith, refl)
-
-pub returns-else-abs-limit : goal.returns-else-abs-limit
-unfolding all_within
-returns-else-abs-limit c =
-    let xs = c.args.xs.now in
-    sym (every-not (length xs) _ c.loop-i.i c.loop-i-test.true (rw (sym c.abs.ensures) c.if-abs-limit.false))
-
-pub loop-i-preserved : goal.loop-i-preserved
-unfolding every
-loop-i-preserved c = (search rules, rw (add-one, c.loop-i.invariant.1, sym c.abs.ensures) c.if-abs-limit.true)
 
 pub returns : goal.returns
 unfolding all_within
-returns c = let e : c.loop-i.i ≡ length c.args.xs.now = omega arith in rw (sym e) (sym c.loop-i.invariant.1)
+returns c =
+    let test = λ (x : Float). le (abs x) c.args.limit in
+    all_from_yields_List test _ _ c.all.result c.all.ensures.ran (YieldsList-from_slice c.args.xs.now cc) (λ x b q k. search (rules, tests))
+    ∙ all-every test nan c.args.xs.now
