@@ -1,8 +1,7 @@
 // Standard input in pieces: one read, and what it leaves of a line moved to the front for the next.
 #![tactic(auto)]
 
-ghost use Rattle.std.specs.Prelude.{◌≡◌, ◌-◌, ◌≤◌, length, drop};
-ghost use Rattle.std.proofs.Math.Seq.{paste};
+ghost use Rattle.std.specs.Prelude.{◌≡◌, ◌≤◌, length};
 ghost use Rattle.pieces.specs.Kept.{kept_of};
 
 use std::io::Read;
@@ -27,25 +26,12 @@ pub fn fill(rt: HostRuntime, buf: &mut [u8]) -> Filled
     }
 }
 
-// Moves the bytes from `used` up to `have` to the front.
-fn move_down(buf: &mut [u8], used: usize, have: usize)
-    requires { (used ≤ have) × (have ≤ length buf.old) }
-    ensures { buf.new ≡ paste buf.old 0 (drop used buf.old) (have - used) }
-{
-    let mut i = 0;
-    while i < have - used {
-        buf[i] = buf[used + i];
-        i += 1;
-    }
-}
-
 // Keeps the bytes from `used` up to `have`, at the front; other numbers than places in this order change nothing.
+#[tactic(auto, unfolding(crate::specs::Kept::kept_of))]
 pub fn keep(buf: &mut [u8], used: usize, have: usize)
     ensures { buf.new ≡ kept_of used have buf.old }
 {
-    if used <= have {
-        if have <= buf.len() {
-            move_down(buf, used, have);
-        }
+    if used <= have && have <= buf.len() {
+        buf.copy_within(used..have, 0);
     }
 }
