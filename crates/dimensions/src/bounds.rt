@@ -34,7 +34,7 @@ fn with_bounds(distribution: Distribution, bounds: InternalBounds) -> DimensionI
             lo,
             hi,
         },
-        InternalBounds::Absent | InternalBounds::Refused(_) => DimensionInfo {
+        Ok(None) | Err(_) => DimensionInfo {
             distribution,
             lo: 0.0,
             hi: 0.0,

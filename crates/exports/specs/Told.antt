@@ -1,10 +1,10 @@
 -- One word for an answer: the value's, or the refusal's number. Definitions only.
-use Rattle.std.specs.Prelude.{ℕ}
+use Rattle.refusal.specs.declared.Refusal.{Refusal}
+use Rattle.refusal.specs.Numbers.{cause_number}
+use Rattle.std.specs.Prelude.{ℕ, Result, Ok, Err, Float}
 use Rattle.std.specs.Float.{binary64}
 use Rattle.std.specs.Float.Ieee.{to_bits}
-use Rattle.arith.specs.declared.Outcome.{Outcome}
-use Rattle.arith.specs.declared.Outcome.TheVariants.{Value, Refused}
 
-abbrev pub told_of : Outcome → ℕ
-told_of (Value x) = to_bits binary64 x
-told_of (Refused n) = n
+abbrev pub told_of : Result Float Refusal → ℕ
+told_of (Ok x) = to_bits binary64 x
+told_of (Err r) = cause_number r

@@ -9,13 +9,15 @@ ghost use Rattle.logarithm.specs.Ln.{ln_of};
 ghost use Rattle.root.specs.Sqrt.{sqrt_of};
 ghost use Rattle.exports.specs.Told.{told_of};
 
+use refusal::Refusal;
+
 // The word of a value, or the number of a refusal.
-fn told(o: arith::Outcome) -> u64
+fn told(o: Result<f64, Refusal>) -> u64
     ensures { result ≡ told_of o }
 {
     match o {
-        arith::Outcome::Value(x) => arith::word_of_float(x),
-        arith::Outcome::Refused(n) => n,
+        Ok(x) => arith::word_of_float(x),
+        Err(refusal) => refusal.number(),
     }
 }
 

@@ -1,4 +1,6 @@
 -- Every recent slot is like the first one of its id exactly where no two recent slots of one id are unequal. Assumes nothing.
+use Rattle.distribution.specs.declared.Distribution.{Distribution}
+use Rattle.std.specs.Prelude.{Option, Some, None}
 use Prim.Native.Nat.{ℕ, ◌+◌, ◌*◌, ◌≤◌, ◌<◌}
 use native.Mathlib.Omega.{arith}
 use mathlib.Core.Path.{◌≡◌, refl, ap, ◌∙◌, subst}
@@ -12,23 +14,20 @@ use lib.Ieee.Fits.{and_i, and_l, and_r, eq→eqb}
 use Rattle.arith.specs.Lists.{every}
 use Rattle.arith.proofs.Lists.{every-each, each-every, place_found, place-some, place-most}
 use Rattle.arith.proofs.Tests.{either, or_left, or_right, or_split, iff}
-use Rattle.distribution.specs.declared.Read.{Read}
 use Rattle.distribution_words.specs.Words.{read_of}
 use Rattle.distribution.proofs.Equals.{equal-sym, equal-trans}
 use Rattle.history_rows.specs.First.{first_row_with, first_slot_with, like_first, row_like_first}
 use Rattle.history_rows.specs.Rows.{width_of, row_at, slot_at}
-use Rattle.slots.specs.Slot.{id_of}
-use Rattle.slots.specs.Slot.{present, same_id, slot_read, reads_equal, agreeing}
+use Rattle.slots.specs.Slot.{id_of, present, same_id, slot_read, reads_equal, agreeing, has_id}
 use Rattle.history_rows.specs.Tests.{rows_agreeing}
-use Rattle.slots.specs.Slot.{has_id}
 use Rattle.history_rows.specs.Slots.{slot_with}
 
 -- two that are equal to a third are equal
-pub reads_same : (x a b : Read) → T (reads_equal x a) → T (reads_equal x b) → T (reads_equal a b)
-reads_same (Read.WellFormed x) (Read.WellFormed a) (Read.WellFormed b) p q = equal-trans a x b (equal-sym x a p) q
-reads_same (Read.WellFormed x) (Read.WellFormed a) Read.Malformed p q = absurd q
-reads_same (Read.WellFormed x) Read.Malformed b p q = absurd p
-reads_same Read.Malformed a b p q = absurd p
+pub reads_same : (x a b : Option Distribution) → T (reads_equal x a) → T (reads_equal x b) → T (reads_equal a b)
+reads_same (Some x) (Some a) (Some b) p q = equal-trans a x b (equal-sym x a p) q
+reads_same (Some x) (Some a) None p q = absurd q
+reads_same (Some x) None b p q = absurd p
+reads_same None a b p q = absurd p
 
 -- slots of one id that agree have equal distributions
 pub equal_of : (v w : List ℕ) → T (agreeing v w) → T (same_id v w) → T (reads_equal (slot_read v) (slot_read w))
@@ -66,13 +65,13 @@ module _ (n m : ℕ) (r : List ℕ) where
       ltb→lt (slot_with n (row_at n r (first_row_with n m r id)) id) n (unfold first_row_with in place_found m (λ j. ltb (slot_with n (row_at n r j) id) n) (unfold first_row_with in l))
 
   -- where no row has it, nothing is read
-  pub none_first : (id : ℕ) → length r ≡ m * width_of n → m ≤ first_row_with n m r id → slot_read (first_slot_with n m r id) ≡ Read.Malformed
+  pub none_first : (id : ℕ) → length r ≡ m * width_of n → m ≤ first_row_with n m r id → slot_read (first_slot_with n m r id) ≡ None
   none_first id e l = read-nothing (row_at n r (first_row_with n m r id)) (slot_with n (row_at n r (first_row_with n m r id)) id) (rw q (ap (take (width_of n)) (drop_of_length-le r {i = m * width_of n} (omega arith)) ∙ take-nil (width_of n)))
     where
       q : first_row_with n m r id ≡ m
       q = let k : first_row_with n m r id ≤ m = unfold first_row_with in place-most m (λ j. ltb (slot_with n (row_at n r j) id) n) in omega arith
 
-      read-nothing : (row : List ℕ) (s : ℕ) → row ≡ [] → slot_read (slot_at row s) ≡ Read.Malformed
+      read-nothing : (row : List ℕ) (s : ℕ) → row ≡ [] → slot_read (slot_at row s) ≡ None
       read-nothing row s z = rw (z, drop-nil {A = ℕ} (3 + 8 * s), take-nil {A = ℕ} 8) (unfold slot_read read_of in refl)
 
   abbrev Likes : Bool

@@ -9,7 +9,7 @@ ghost use Rattle.slots.specs.Slot.{slot_read};
 ghost use Rattle.history_rows.specs.Slots.{slot_with};
 
 use crate::{RecentRows, rows};
-use distribution::Read;
+use distribution::Distribution;
 
 // The first row that has the id, or m.
 fn first_row_with(n: usize, m: usize, r: &[u64], id: u64) -> usize
@@ -29,7 +29,7 @@ fn first_row_with(n: usize, m: usize, r: &[u64], id: u64) -> usize
 }
 
 // The distribution under that id in a row that has it.
-fn read_with(n: usize, row: &[u64], id: u64) -> Read
+fn read_with(n: usize, row: &[u64], id: u64) -> Option<Distribution>
     requires { (n ≤ 20) × (length row.now ≡ width_of n) × (slot_with n row.now id < n) }
     ensures { result ≡ slot_read (slot_at row.now (slot_with n row.now id)) }
 {

@@ -1,4 +1,5 @@
 -- Training data that are accepted meet the fit's domain: the counts, and the size of each value. Assumes nothing.
+use Rattle.std.specs.Prelude.{Option, Some, None}
 use mathlib.Core.Path.{◌≡◌, refl, sym, ◌∙◌, subst}
 use Prim.Native.Nat.{ℕ, ◌*◌, ◌/◌, ◌%◌, ◌≤◌, ◌<◌}
 use native.Mathlib.Nat.{le_trans, div-lt_iff_lt-mul, mod-lt}
@@ -18,7 +19,6 @@ use Rattle.arith.specs.Lists.{every, list_of}
 use Rattle.arith.proofs.Lists.{grown-length, grown-at, grown-padded-take, every-each, each-every, place_found, places-length, places-at}
 use Rattle.arith.proofs.Within as sizes
 use Rattle.distribution.specs.declared.Distribution.{Distribution}
-use Rattle.distribution.specs.declared.Read.{Read}
 use Rattle.distribution.specs.Shape.{power, continuous_of}
 use Rattle.distribution.specs.Taken.{taken_of, value_of}
 use Rattle.distribution.proofs.Equals.{equal-trans}
@@ -32,10 +32,8 @@ use Rattle.history.specs.declared.Training.{Training}
 use Rattle.dimensions.specs.Dimensions.{dimension_at, columns_of}
 use Rattle.param_mapping.specs.Mapping.{none, mapped_of, number_of}
 use Rattle.history_rows.specs.Rows.{row_count, recent_of, row_at, objective_of, slot_at}
-use Rattle.slots.specs.Slot.{id_of, taken_word}
+use Rattle.slots.specs.Slot.{id_of, taken_word, present, slot_read, taken_read, slot_ok, reads_equal, agreeing, has_id}
 use Rattle.history_rows.specs.Tests.{row_ok, slots_ok, rows_agreeing}
-use Rattle.slots.specs.Slot.{present, slot_read, taken_read, slot_ok, reads_equal, agreeing}
-use Rattle.slots.specs.Slot.{has_id}
 use Rattle.history_rows.specs.Slots.{slot_with}
 use Rattle.history.specs.Training.{covers_of, trains_of, column_of, kept_of, x_of, y_of, recent_training, refused_of, training_of}
 use Rattle.history_view.specs.Usable.{Usable}
@@ -52,22 +50,22 @@ use Rattle.history_view.proofs.Values.{Column, entry-within}
 -- a well-formed distribution that takes the slot's value
 record Taken (v : List ℕ) : Type 0 where
   distribution : Distribution
-  is : slot_read v ≡ Read.WellFormed distribution
+  is : slot_read v ≡ Some distribution
   taken : T (taken_of distribution (value_of distribution (taken_word v)))
 
 slot-taken : (v : List ℕ) → T (slot_ok v) → T (present v) → Taken v
 unfolding slot_ok
 slot-taken v t p = go (slot_read v) refl (rw (is_true (present v) p) at t)
   where
-    go : (r : Read) → slot_read v ≡ r → T (taken_read r (taken_word v)) → Taken v
-    go (Read.WellFormed d) e t = record { distribution = d; is = e; taken = t }
-    go Read.Malformed e t = absurd t
+    go : (r : Option Distribution) → slot_read v ≡ r → T (taken_read r (taken_word v)) → Taken v
+    go (Some d) e t = record { distribution = d; is = e; taken = t }
+    go None e t = absurd t
 
-reads-trans : (a b c : Read) → T (reads_equal a b) → T (reads_equal b c) → T (reads_equal a c)
-reads-trans (Read.WellFormed a) (Read.WellFormed b) (Read.WellFormed c) p q = equal-trans a b c p q
-reads-trans (Read.WellFormed a) (Read.WellFormed b) Read.Malformed p q = q
-reads-trans (Read.WellFormed a) Read.Malformed c p q = absurd p
-reads-trans Read.Malformed b c p q = absurd p
+reads-trans : (a b c : Option Distribution) → T (reads_equal a b) → T (reads_equal b c) → T (reads_equal a c)
+reads-trans (Some a) (Some b) (Some c) p q = equal-trans a b c p q
+reads-trans (Some a) (Some b) None p q = q
+reads-trans (Some a) None c p q = absurd p
+reads-trans None b c p q = absurd p
 
 -- two slots of one id
 agreed : (u v : List ℕ) → T (agreeing u v) → T (present u) → T (present v) → id_of u ≡ id_of v → T (reads_equal (slot_read u) (slot_read v))
@@ -170,8 +168,8 @@ module _ (n : ℕ) (dims : List DimensionInfo) (k : ℕ) (h : List ℕ) where
           let v = slot_at (row i) s in
           let g = agreed u v (slots-agree 0 i a.place s (omega arith) l a.below o.below) a.present o.present (a.under ∙ sym o.under) in
           let r = slot-taken v (slot_ok_lem i s l o.below) o.present in
-          let d = Read.WellFormed (dimension_at dims j).distribution in
-          entry-within (dimension_at dims j) (column j q.0 q.1) v r.distribution r.is r.taken (subst (λ (x : Read). T (reads_equal d x)) r.is (reads-trans d (slot_read u) (slot_read v) a.equal g))
+          let d = Some (dimension_at dims j).distribution in
+          entry-within (dimension_at dims j) (column j q.0 q.1) v r.distribution r.is r.taken (subst (λ (x : Option Distribution). T (reads_equal d x)) r.is (reads-trans d (slot_read u) (slot_read v) a.equal g))
 
       recent-usable : k ≤ 20 → let t = recent_training n dims k (recent_of n h) in 1 ≤ t.d → fit_domain (take (t.n * t.d) t.x) (take t.n t.y) t.d ≡ true
       unfolding recent_training x_of y_of

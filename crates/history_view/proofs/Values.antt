@@ -1,4 +1,6 @@
 -- The value of a slot under a dimension whose distribution equals the slot's is at most 1e32 in size. Assumes nothing.
+use Rattle.refusal.specs.declared.Refusal.TheVariants.{OutOfDomain}
+use Rattle.std.specs.Prelude.{Ok, Err, Some}
 use mathlib.Core.Path.{◌≡◌, sym, ap, ◌∙◌, subst}
 use Prim.Native.Nat.{ℕ}
 use mathlib.Core.Bool.{Bool, true, false, not, ◌&&◌, cond}
@@ -8,22 +10,19 @@ use lib.Ieee.{Float, binary64, sub, div, lt, le, fits, to_bits, of_bits}
 use lib.Ieee.Bits.{of_bits-to_bits, of_bits-fits}
 use Rattle.arith.specs.Bounds.{abs, Within}
 use Rattle.distribution.specs.declared.Distribution.{Distribution}
-use Rattle.distribution.specs.declared.Read.{Read}
 use Rattle.distribution.specs.Equal.{equal_of}
 use Rattle.distribution_words.specs.RoundTrip.{Held}
 use Rattle.distribution.specs.Shape.{shape_of, continuous_of}
 use Rattle.distribution.specs.Taken.{taken_of, value_of}
 use Rattle.distribution.proofs.Equals.{equal-taken}
 use Rattle.distribution.proofs.Facts.{parts}
-use Rattle.encoding.specs.declared.InternalBounds.{InternalBounds}
-use Rattle.encoding.specs.Bounds.{ends_of, bounds_of}
+use Rattle.encoding.specs.Bounds.{InternalBounds, ends_of, bounds_of}
 use Rattle.encoding.proofs.EndLaws.{FloatsFit, bounds}
 use Rattle.common.proofs.Facts.{ValueFits, encode-accepted, apart, largest, normalised}
 use Rattle.scaling.specs.Scaling.{to_normalized_of}
 use Rattle.dimensions.specs.declared.DimensionInfo.{DimensionInfo}
 use Rattle.dimensions.specs.Dimensions.{same_bits, bounds_are, dimension_ok}
-use Rattle.slots.specs.Slot.{taken_word}
-use Rattle.slots.specs.Slot.{slot_read}
+use Rattle.slots.specs.Slot.{taken_word, slot_read}
 use Rattle.history.specs.Training.{entry_of}
 
 -- ---- the dimension
@@ -42,7 +41,7 @@ pub bounds-shape : (d : Distribution) (lo hi : Float) → T (bounds_are (bounds_
 unfolding bounds_of
 bounds-shape d lo hi t = go (shape_of d) t
   where
-    go : (b : Bool) → T (bounds_are (cond b (ends_of d) (InternalBounds.Refused 11)) lo hi) → T b
+    go : (b : Bool) → T (bounds_are (cond b (ends_of d) (Err OutOfDomain)) lo hi) → T b
     go true t = tt
     go false t = t
 
@@ -58,7 +57,7 @@ pub shape : (d : DimensionInfo) → Column d → T (shape_of d.distribution)
 unfolding dimension_ok
 shape d r = bounds-shape d.distribution d.lo d.hi r.ok
 
-pub ends : (d : DimensionInfo) → Column d → bounds_of d.distribution ≡ InternalBounds.Ends d.lo d.hi
+pub ends : (d : DimensionInfo) → Column d → bounds_of d.distribution ≡ Ok (Some (d.lo, d.hi))
 unfolding dimension_ok
 ends d r =
     let b = bounds d.distribution r.continuous (floats-fit d.distribution r.held) (shape d r) in
@@ -88,7 +87,7 @@ scaled-within x lo hi f = go (lt (abs (sub binary64 hi lo)) apart) f
     go true f = half
     go false f = f tt
 
-pub entry-within : (d : DimensionInfo) → Column d → (v : List ℕ) (e : Distribution) → slot_read v ≡ Read.WellFormed e → T (taken_of e (value_of e (taken_word v))) → T (equal_of d.distribution e)
+pub entry-within : (d : DimensionInfo) → Column d → (v : List ℕ) (e : Distribution) → slot_read v ≡ Some e → T (taken_of e (value_of e (taken_word v))) → T (equal_of d.distribution e)
     → Within largest (entry_of d v)
 unfolding entry_of
 entry-within d r v e p t q =

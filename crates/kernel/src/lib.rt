@@ -23,11 +23,11 @@ fn distance(x1: &[f64], x2: &[f64], lengthscales: &[f64]) -> f64
 
 // The same of any lists: 11 where they differ in length.
 #[tactic(auto, unfolding(crate::specs::Matern::squared_of))]
-pub fn squared_distance(x1: &[f64], x2: &[f64], lengthscales: &[f64]) -> Outcome
+pub fn squared_distance(x1: &[f64], x2: &[f64], lengthscales: &[f64]) -> Result<f64, Refusal>
     ensures { result ≡ squared_of x1.now x2.now lengthscales.now }
 {
     if x1.len() != x2.len() || x1.len() != lengthscales.len() {
-        return Outcome::Refused(11);
+        return Err(Refusal::OutOfDomain);
     }
     Ok(distance(x1, x2, lengthscales))
 }
@@ -49,13 +49,16 @@ pub fn decay(r_sq: f64, sqrt5_r: f64, signal_var: f64) -> Result<f64, Refusal>
 
 // The kernel of two points: 11 where the lists differ in length.
 #[tactic(auto, unfolding(crate::specs::Matern::squared_of, crate::specs::Matern::matern52_of))]
-pub fn matern52(x1: &[f64], x2: &[f64], lengthscales: &[f64], signal_var: f64) -> Outcome
+pub fn matern52(
+    x1: &[f64],
+    x2: &[f64],
+    lengthscales: &[f64],
+    signal_var: f64,
+) -> Result<f64, Refusal>
     ensures { result ≡ matern52_of x1.now x2.now lengthscales.now signal_var }
 {
-    match squared_distance(x1, x2, lengthscales) {
-        Outcome::Value(r_sq) => decay(r_sq, scaled_root(r_sq), signal_var),
-        refused => refused,
-    }
+    let r_sq = squared_distance(x1, x2, lengthscales)?;
+    decay(r_sq, scaled_root(r_sq), signal_var)
 }
 
 // Points and lengthscales of one length have a value, whatever the floats: a theorem, as a contract.

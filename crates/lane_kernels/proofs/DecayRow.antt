@@ -1,12 +1,12 @@
 -- The kernel by eight squared distances, from the scaled roots and the exponentials. Assumes nothing.
+use Rattle.refusal.specs.declared.Refusal.{Refusal}
+use Rattle.std.specs.Prelude.{Result, Ok, Err}
 use mathlib.Core.Path.{◌≡◌, refl, ◌∙◌}
 use mathlib.Core.List.{List}
 use Prim.Native.Nat.{ℕ, ◌<◌}
 use lib.IntN.{pos}
 use lib.ListN.{get_or}
 use lib.Ieee.{Float, nan, inf, fin, binary64, mul, neg, of_int}
-use Rattle.arith.specs.declared.Outcome.{Outcome}
-use Rattle.arith.specs.declared.Outcome.TheVariants.{Value, Refused}
 use Rattle.exponential.specs.Exp.{exp_of}
 use Rattle.arith.specs.Outcome.{made, value_of}
 use Rattle.kernel.specs.Matern.{polynomial_of, scaled_root_of, decay_of, at_of}
@@ -20,9 +20,9 @@ times-nan nan = refl
 times-nan (inf s) = refl
 times-nan (fin s m e) = refl
 
-times-value : (a : Float) (o : Outcome) → mul binary64 a (value_of o) ≡ value_of (made (mul binary64 a) o)
-times-value a (Value v) = refl
-times-value a (Refused n) = times-nan a
+times-value : (a : Float) (o : Result Float Refusal) → mul binary64 a (value_of o) ≡ value_of (made (mul binary64 a) o)
+times-value a (Ok v) = refl
+times-value a (Err n) = times-nan a
 
 pub decay-row : (r2 q x e r : List Float) → q ≡ eight_of (λ p. scaled_root_of (get_or r2 p nan)) → x ≡ eight_of (λ p. neg (get_or q p nan)) → e ≡ eight_of (λ p. value_of (exp_of (get_or x p nan)))
     → r ≡ eight_of (λ p. mul binary64 (mul binary64 (of_int binary64 (pos 1)) (polynomial_of (get_or q p nan) (get_or r2 p nan))) (get_or e p nan))

@@ -1,4 +1,5 @@
 -- The id that a dimension is mapped to is one of the row's: a slot that is present has it, with an equal distribution. Assumes nothing.
+use Rattle.std.specs.Prelude.{Some}
 use mathlib.Core.Path.{◌≡◌, refl}
 use Prim.Native.Nat.{ℕ, zero, suc, ◌<◌}
 use native.Mathlib.Omega.{arith}
@@ -11,14 +12,12 @@ use Rattle.arith.specs.Lists.{grown}
 use Rattle.arith.proofs.Lists.{grown-read}
 use Rattle.arith.proofs.Tests.{taken}
 use Rattle.distribution.specs.declared.Distribution.{Distribution}
-use Rattle.distribution.specs.declared.Read.{Read}
 use Rattle.dimensions.specs.declared.DimensionInfo.{DimensionInfo}
 use Rattle.param_mapping.specs.declared.Mapped.{Mapped}
 use Rattle.dimensions.specs.Dimensions.{dimension_at}
 use Rattle.param_mapping.specs.Mapping.{insert_by_id, entries_of, none, first_entry, consumed_of, matches_of, mapped_of}
 use Rattle.history_rows.specs.Rows.{slot_at}
-use Rattle.slots.specs.Slot.{id_of}
-use Rattle.slots.specs.Slot.{present, slot_read, reads_equal}
+use Rattle.slots.specs.Slot.{id_of, present, slot_read, reads_equal}
 
 -- ---- what holds of each entry
 
@@ -62,7 +61,7 @@ pub record Consumed (n : ℕ) (row : List ℕ) (d : Distribution) (id : ℕ) : T
   pub below : place < n
   pub present : T (present (slot_at row place))
   pub under : id_of (slot_at row place) ≡ id
-  pub equal : T (reads_equal (Read.WellFormed d) (slot_read (slot_at row place)))
+  pub equal : T (reads_equal (Some d) (slot_read (slot_at row place)))
 
 pub consumed : (n : ℕ) (dims : List DimensionInfo) (k : ℕ) (row : List ℕ) (j : ℕ) → j < k → T (get_or (mapped_of n dims k row) j none).found
     → Consumed n row (dimension_at dims j).distribution (get_or (mapped_of n dims k row) j none).id
@@ -73,4 +72,4 @@ consumed n dims k row j l =
     rw (grown-read f k j none l)
     (found-id (Consumed n row d) (matches_of (grown f j) j d) (entries_of row n)
     (entries-each (λ v. T (matches_of (grown f j) j d v) → Consumed n row d (id_of v)) row n
-    (λ s b p t. record { place = s; below = b; present = p; under = refl; equal = and_l (reads_equal (Read.WellFormed d) (slot_read (slot_at row s))) (not (consumed_of (grown f j) j (id_of (slot_at row s)))) t })))
+    (λ s b p t. record { place = s; below = b; present = p; under = refl; equal = and_l (reads_equal (Some d) (slot_read (slot_at row s))) (not (consumed_of (grown f j) j (id_of (slot_at row s)))) t })))

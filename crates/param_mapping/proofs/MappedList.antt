@@ -1,4 +1,5 @@
 -- The mapping in an array of 20 places: the next dimension's id is written behind those before it. Assumes nothing.
+use Rattle.std.specs.Prelude.{Some}
 use Prim.Native.Nat.{ℕ, zero, suc, ◌+◌, ◌*◌, ◌≤◌, ◌<◌}
 use native.Mathlib.Omega.{arith}
 use mathlib.Core.Path.{◌≡◌, refl, sym, ap, ◌∙◌, subst}
@@ -9,21 +10,19 @@ use lib.Seq.{take-nil, drop-nil, set-get_or}
 use Rattle.arith.specs.Lists.{grown, filled}
 use Rattle.arith.proofs.Lists.{every-same, grown-length, grown-filled-set, filled_at}
 use Rattle.distribution.specs.declared.Distribution.{Distribution}
-use Rattle.distribution.specs.declared.Read.{Read}
 use Rattle.dimensions.specs.declared.DimensionInfo.{DimensionInfo}
 use Rattle.param_mapping.specs.declared.Mapped.{Mapped}
 use Rattle.dimensions.specs.Dimensions.{dimension_at}
 use Rattle.param_mapping.specs.Mapping.{none, insert_by_id, entries_of, first_entry, is_mapped, consumed_of, matches_of, mapped_of}
 use Rattle.history_rows.specs.Rows.{width_of, row_at, slot_at}
-use Rattle.slots.specs.Slot.{id_of, present}
-use Rattle.slots.specs.Slot.{slot_read, reads_equal}
+use Rattle.slots.specs.Slot.{id_of, present, slot_read, reads_equal}
 use Rattle.param_mapping.proofs.Least.{first-same}
 
 -- past the dimensions before, the array is not read
 matches-same : (before : List Mapped) (j : ℕ) (d : Distribution) (v : List ℕ) → length before ≡ j → matches_of (filled none 20 before) j d v ≡ matches_of before j d v
 unfolding matches_of consumed_of
 matches-same before j d v e =
-    ap (λ (b : Bool). reads_equal (Read.WellFormed d) (slot_read v) && not (not b))
+    ap (λ (b : Bool). reads_equal (Some d) (slot_read v) && not (not b))
     (every-same j (λ i. not (is_mapped (id_of v) (get_or (filled none 20 before) i none))) (λ i. not (is_mapped (id_of v) (get_or before i none))) (λ i l. ap (λ (m : Mapped). not (is_mapped (id_of v) m)) (filled_at none 20 before i none (subst (λ (k : ℕ). i < k) (sym e) l))))
 
 pub mapped-length : (n : ℕ) (dims : List DimensionInfo) (k : ℕ) (row : List ℕ) → length (mapped_of n dims k row) ≡ k

@@ -1,15 +1,13 @@
 -- "Mapping: the first recent row's entries sorted by id; each dimension in order consumes the first equal distribution." Definitions only.
-use Rattle.std.specs.Prelude.{ℕ, zero, suc, Bool, true, false, not, ◌&&◌, cond, List, [], ◌∷◌, eqb, ltb, get_or}
+use Rattle.std.specs.Prelude.{ℕ, zero, suc, Bool, true, false, not, ◌&&◌, cond, List, [], ◌∷◌, eqb, ltb, get_or, Some}
 use Rattle.arith.specs.Lists.{every, grown, filled}
 use Rattle.distribution.specs.declared.Distribution.{Distribution}
-use Rattle.distribution.specs.declared.Read.{Read}
 use Rattle.dimensions.specs.declared.DimensionInfo.{DimensionInfo}
 use Rattle.param_mapping.specs.declared.Mapped.{Mapped}
 use Rattle.param_mapping.specs.declared.Mapping.{Mapping}
 use Rattle.dimensions.specs.Dimensions.{dimension_at, dimensions_ok}
 use Rattle.history_rows.specs.Rows.{row_at, slot_at, recent_of}
-use Rattle.slots.specs.Slot.{id_of}
-use Rattle.slots.specs.Slot.{present, slot_read, reads_equal}
+use Rattle.slots.specs.Slot.{id_of, present, slot_read, reads_equal}
 use Rattle.history_rows.specs.Tests.{refusal_of}
 
 -- a slot put before the first one of a greater id
@@ -41,7 +39,7 @@ consumed_of mapping j id = not (every j (λ i. not (is_mapped id (get_or mapping
 -- an entry that dimension j may consume, after the ones before it
 unfoldable pub matches_of : List Mapped → ℕ → Distribution → List ℕ → Bool
 unfolding consumed_of slot_read
-matches_of before j d v = reads_equal (Read.WellFormed d) (slot_read v) && not (consumed_of before j (id_of v))
+matches_of before j d v = reads_equal (Some d) (slot_read v) && not (consumed_of before j (id_of v))
 
 -- the ids of k dimensions in a row of n slots
 unfoldable pub mapped_of : ℕ → List DimensionInfo → ℕ → List ℕ → List Mapped

@@ -7,7 +7,7 @@ ghost use Rattle.history_rows.specs.Rows.{width_of, row_at};
 
 use crate::{Mapped, Mapping};
 use dimensions::DimensionInfo;
-use distribution::{Distribution, Read};
+use distribution::Distribution;
 
 fn is_mapped(id: u64, m: Mapped) -> bool
     ensures { result ≡ is_mapped id m }
@@ -35,7 +35,7 @@ fn matches(mapping: [Mapped; 20], j: usize, d: Distribution, slot: &[u64]) -> bo
     requires { (j ≤ 20) × (length slot.now ≡ 8) }
     ensures { result ≡ matches_of mapping j d slot.now }
 {
-    if !slots::reads_equal(Read::WellFormed(d), slots::read(slot)) {
+    if !slots::reads_equal(Some(d), slots::read(slot)) {
         return false;
     }
     !consumed(mapping, j, slot[0])

@@ -5,7 +5,6 @@ ghost use Rattle.arith.specs.Sums.{products};
 ghost use Rattle.prediction.specs.Predict.{kernel_vector_of, posterior_of, counts_fit, predict_of};
 
 use crate::{Posterior, Prediction};
-use arith::Outcome;
 use gp_model::Model;
 
 // The kernel of a point and each of the n rows of a table of d columns.
@@ -30,8 +29,8 @@ fn dot(a: &[f64], b: &[f64], n: usize) -> f64
     ensures { result ≡ products (take n a.now) (take n b.now) }
 {
     match arith::dot(&a[0..n], &b[0..n]) {
-        Outcome::Value(v) => v,
-        Outcome::Refused(_) => 0.0,
+        Ok(v) => v,
+        Err(_) => 0.0,
     }
 }
 

@@ -1,22 +1,21 @@
 -- Lines of words: "words are 16 lower-case hexadecimal digits, one space between, newline after each line". Definitions only.
-use Rattle.std.specs.Prelude.{ℕ, ◌+◌, ◌*◌, ◌-◌, Bool, true, false, ◌&&◌, List, [], ◌∷◌, ◌++◌, eqb, length, get_or, take, drop}
+use Rattle.std.specs.Prelude.{ℕ, ◌+◌, ◌*◌, ◌-◌, Bool, true, false, ◌&&◌, List, [], ◌∷◌, ◌++◌, eqb, length, get_or, take, drop, Option, Some, None}
 use Rattle.arith.specs.Lists.{every, list_of}
-use Rattle.word_text.specs.declared.Parsed.{Parsed}
 use Rattle.word_text.specs.Digits.{digits_of, parse_of}
 
 -- ---- what is read
 
 -- word i stands 17 bytes after the one before it
-unfoldable pub word_at : List ℕ → ℕ → Parsed
+unfoldable pub word_at : List ℕ → ℕ → Option ℕ
 word_at line i = parse_of (take 16 (drop (17 * i) line))
 
-abbrev pub is_word : Parsed → Bool
-is_word (Parsed.Word w) = true
-is_word Parsed.Malformed = false
+abbrev pub is_word : Option ℕ → Bool
+is_word (Some w) = true
+is_word None = false
 
-abbrev pub word_of : Parsed → ℕ
-word_of (Parsed.Word w) = w
-word_of Parsed.Malformed = 0
+abbrev pub word_of : Option ℕ → ℕ
+word_of (Some w) = w
+word_of None = 0
 
 -- whether a space stands between each two of k words
 abbrev pub spaced_of : ℕ → List ℕ → Bool

@@ -3,8 +3,6 @@ ghost use Rattle.std.specs.Prelude.{◌≡◌, ◌+◌, ◌*◌, ◌≤◌, leng
 ghost use Rattle.propose_lines.specs.Lines.{spaced_of};
 ghost use Rattle.propose_lines.specs.Stored.{WordsStored, room_for, WordsRead};
 
-use word_text::Parsed;
-
 // Whether a space stands between each two of k words.
 fn is_spaced(line: &[u8], k: usize) -> bool
     requires { (1 ≤ k) × (length line.now + 1 ≡ 17 * k) }
@@ -30,7 +28,7 @@ fn store_words(line: &[u8], k: usize, out: &mut [u64], at: usize) -> bool
         let start = 17 * i;
         let end = start + 16;
         let p = word_text::parse(&line[start..end]);
-        let Parsed::Word(w) = p else {
+        let Some(w) = p else {
             return false;
         };
         out[at + i] = w;

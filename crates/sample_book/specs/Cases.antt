@@ -1,9 +1,8 @@
 -- Document 01's sample book, as facts of the definitions. Definitions and statements only.
-use Rattle.std.specs.Prelude.{◌≡◌, true, false, ℤ, pos, negsuc, [], ◌∷◌}
+use Rattle.std.specs.Prelude.{◌≡◌, true, false, ℤ, pos, negsuc, [], ◌∷◌, Ok}
 use Rattle.std.specs.Int.Signed.{lt_z}
 use Rattle.std.specs.Float.{binary64}
 use Rattle.std.specs.Float.Ieee.{of_bits, of_int, to_bits}
-use Rattle.arith.specs.declared.Outcome.TheVariants.{Value}
 use Rattle.exponential.specs.Exp.{exp_of}
 use Rattle.logarithm.specs.Ln.{ln_of}
 use Rattle.arith.specs.Lists.{filled}
@@ -47,11 +46,11 @@ pub record SampleBook : Type 0 where
   -- (i) ln(1) = 0
   pub i : word_of (ln_of (of_bits binary64 0x3ff0000000000000)) ≡ 0
   -- (j) Φ(8.5) = 1
-  pub j : norm_cdf_of (of_bits binary64 0x4021000000000000) ≡ Value (of_int binary64 (pos 1))
+  pub j : norm_cdf_of (of_bits binary64 0x4021000000000000) ≡ Ok (of_int binary64 (pos 1))
   -- (k) mean 2, std 0: best 3 gives 1
-  pub k-above : expected_improvement_of (of_int binary64 (pos 2)) (of_bits binary64 0) (of_int binary64 (pos 3)) ≡ Value (of_int binary64 (pos 1))
+  pub k-above : expected_improvement_of (of_int binary64 (pos 2)) (of_bits binary64 0) (of_int binary64 (pos 3)) ≡ Ok (of_int binary64 (pos 1))
   -- best 1 gives 0
-  pub k-below : expected_improvement_of (of_int binary64 (pos 2)) (of_bits binary64 0) (of_int binary64 (pos 1)) ≡ Value (of_bits binary64 0)
+  pub k-below : expected_improvement_of (of_int binary64 (pos 2)) (of_bits binary64 0) (of_int binary64 (pos 1)) ≡ Ok (of_bits binary64 0)
   -- (l) equal distributions under ids 9, 4 map to 4, then 9
   pub l : mapping_of 2 (dimension_of (ints (pos 0) (pos 9) (pos 0)) ∷ dimension_of (ints (pos 0) (pos 9) (pos 0)) ∷ []) 2 (7 ∷ 1 ∷ 0 ∷ 9 ∷ 2 ∷ 0 ∷ 9 ∷ 0 ∷ 0 ∷ 0 ∷ 5 ∷ 4 ∷ 2 ∷ 0 ∷ 9 ∷ 0 ∷ 0 ∷ 0 ∷ 5 ∷ [])
       ≡ record { number = 0; ids = filled none 20 (record { found = true; id = 4 } ∷ record { found = true; id = 9 } ∷ []) }

@@ -1,17 +1,16 @@
 // The two calls.
 ghost use Rattle.std.specs.Prelude.{◌≡◌, ◌≤◌};
-ghost use Rattle.distribution.specs.declared.Read.{Read};
 ghost use Rattle.sampler_laws.specs.Calls.{asked_of, sample_of, close_of};
 
 use crate::{phases, states};
-use distribution::{Distribution, ParamValue, Read};
+use distribution::{Distribution, ParamValue};
 use sampler_laws::Sampled;
 use sampler_state::Sampler;
 
 // A well-formed distribution asked: the history's number, or an answer.
 fn asked(s: Sampler, d: Distribution, trial: u64, h: &[u64]) -> Sampled
     requires { s.n_dims ≤ 20 }
-    ensures { result ≡ asked_of s (Read.WellFormed d) trial h.now }
+    ensures { result ≡ asked_of s (Some d) trial h.now }
 {
     let settings = s.settings;
     let number = history_rows::refusal(settings.slots as usize, h);
@@ -39,8 +38,8 @@ pub fn sample(
         return states::refused(s, 11);
     }
     match distribution_words::distribution_of(kind, low, high, log, stepped, step) {
-        Read::WellFormed(d) => asked(s, d, trial, h),
-        Read::Malformed => states::refused(s, 2),
+        Some(d) => asked(s, d, trial, h),
+        None => states::refused(s, 2),
     }
 }
 

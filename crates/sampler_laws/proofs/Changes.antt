@@ -1,4 +1,5 @@
 -- A well-formed sampler with its word, a place, its phase or its dimensions changed is well-formed. Assumes nothing.
+use Rattle.std.specs.Prelude.{Ok, Some, None}
 use Prim.Native.Nat.{ℕ, ◌+◌, ◌<◌}
 use native.Mathlib.Omega.{arith}
 use mathlib.Core.Path.{◌≡◌, refl, sym, ap, ◌∙◌, subst}
@@ -18,8 +19,7 @@ use Rattle.rng_util.proofs.Nonzero.{Nonzero, nonzero-test}
 use Rattle.distribution.specs.declared.Distribution.{Distribution}
 use Rattle.distribution_words.specs.RoundTrip.{Held}
 use Rattle.distribution.specs.Shape.{shape_of}
-use Rattle.encoding.specs.declared.InternalBounds.{InternalBounds}
-use Rattle.encoding.specs.Bounds.{bounds_of}
+use Rattle.encoding.specs.Bounds.{InternalBounds, bounds_of}
 use Rattle.encoding.proofs.EndLaws.{HasEnds, bounds, choice-bounds}
 use Rattle.dimensions.specs.declared.DimensionInfo.{DimensionInfo}
 use Rattle.dimensions.specs.Dimensions.{bounds_are, same_bits, with_bounds, no_dimension, dimension_at, dimension_of, dimension_ok, dimensions_ok}
@@ -71,14 +71,14 @@ same_bits_lem : (lo hi : Float) → T (same_bits lo lo && same_bits hi hi)
 same_bits_lem lo hi = and_i (same_bits lo lo) (same_bits hi hi) (eqb_refl (to_bits binary64 lo)) (eqb_refl (to_bits binary64 hi))
 
 ends-formed : (d : Distribution) → Held d → {log : Bool} → HasEnds log (bounds_of d) → Formed (dimension_of d)
-ends-formed d h b = bounds-formed d b.lo b.hi (InternalBounds.Ends b.lo b.hi) b.is refl (same_bits_lem b.lo b.hi) h b.rules.low_fits b.rules.high_fits
+ends-formed d h b = bounds-formed d b.lo b.hi (Ok (Some (b.lo, b.hi))) b.is refl (same_bits_lem b.lo b.hi) h b.rules.low_fits b.rules.high_fits
 
 pub dimension-formed : (d : Distribution) → Held d → T (shape_of d) → Formed (dimension_of d)
 dimension-formed (Distribution.Float d) h x = ends-formed (Distribution.Float d) h (bounds (Distribution.Float d) tt (floats-fit (Distribution.Float d) h) x)
 dimension-formed (Distribution.Int d) h x = ends-formed (Distribution.Int d) h (bounds (Distribution.Int d) tt tt x)
 dimension-formed (Distribution.Categorical d) h x =
     let z = of_bits binary64 0 in
-    bounds-formed (Distribution.Categorical d) z z InternalBounds.Absent (choice-bounds d x) refl (same_bits_lem z z) h (of_bits-fits binary64 0) (of_bits-fits binary64 0)
+    bounds-formed (Distribution.Categorical d) z z (Ok None) (choice-bounds d x) refl (same_bits_lem z z) h (of_bits-fits binary64 0) (of_bits-fits binary64 0)
 
 -- ---- the sampler
 

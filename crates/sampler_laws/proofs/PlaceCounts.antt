@@ -1,4 +1,5 @@
 -- How many places are taken: one more after an accepted new trial, one less after an accepted close; 9 exactly when all 32 are taken and the trial has none. Assumes nothing.
+use Rattle.std.specs.Prelude.{Some}
 use Prim.Native.Nat.{ℕ, ◌+◌}
 use mathlib.Core.Path.{◌≡◌, sym, ap, ◌∙◌}
 use mathlib.Core.Bool.{Bool, true, false, not, ◌&&◌, cond, and_assoc}
@@ -10,7 +11,6 @@ use lib.Ieee.Bits.{is_true}
 use borrow.Author.Tests.{eq-eqb, ne_eqb}
 use Rattle.arith.proofs.Tests.{taken as passed}
 use Rattle.distribution.specs.declared.Distribution.{Distribution}
-use Rattle.distribution.specs.declared.Read.{Read}
 use Rattle.dimensions.specs.declared.DimensionInfo.{DimensionInfo}
 use Rattle.history_view.specs.declared.View.{View}
 use Rattle.dimensions.specs.Dimensions.{dimensions_ok}
@@ -112,7 +112,7 @@ only-full s d trial h =
         (λ _. candidate-other s.settings s.dimensions s.n_dims s.word (served_history s h)) e)
 
 ninth : (s : Sampler) (d : Asked) (r : Distribution) (trial : ℕ) (h : List ℕ)
-    → T (sampler_ok s) → read_asked d ≡ Read.WellFormed r → refusal_of s.settings.slots h ≡ 0 → taken_count s.places ≡ 32 → trial_place s.places trial ≡ 32 → (call_of s (asks d trial h)).number ≡ 9
+    → T (sampler_ok s) → read_asked d ≡ Some r → refusal_of s.settings.slots h ≡ 0 → taken_count s.places ≡ 32 → trial_place s.places trial ≡ 32 → (call_of s (asks d trial h)).number ≡ 9
 unfolding sample_of served_of active_of
 ninth s d r trial h ok e n c p =
     rw (is_true (sampler_ok s) ok, e, eq-eqb (refusal_of s.settings.slots h) 0 n, taken-active s ok 0 (omega arith) (passed (all-taken s.places c 0 (omega arith))), full-no-spot s.places trial c p)

@@ -1,10 +1,10 @@
 -- Two runs whose histories agree at each call answer the same and end in the same sampler: a history is seen only through its number and its view. Assumes nothing.
+use Rattle.std.specs.Prelude.{Option, Some, None}
 use Prim.Native.Nat.{ℕ}
 use mathlib.Core.Path.{◌≡◌, refl, sym, ap, ◌∙◌, subst}
 use mathlib.Core.List.{List, ◌∷◌}
 use Rattle.distribution.specs.declared.Distribution.{Distribution}
 use Rattle.distribution.specs.declared.ParamValue.{ParamValue}
-use Rattle.distribution.specs.declared.Read.{Read}
 use Rattle.history_view.specs.Agree.{Agree}
 use Rattle.param_mapping.specs.Mapping.{number_of}
 use Rattle.history_view.proofs.Order.{order-free}
@@ -39,9 +39,9 @@ module _ (s : Sampler) (g h : List ℕ) (a : Agree s.settings.slots s.settings.n
   unfolding served_of
   served-same d trial = rw (active-same d trial)
 
-  asked-same : (r : Read) (trial : ℕ) → asked_of s r trial g ≡ asked_of s r trial h
-  asked-same Read.Malformed trial = refl
-  asked-same (Read.WellFormed d) trial = rw (served-same d trial, order-free.refusal n startup g h a)
+  asked-same : (r : Option Distribution) (trial : ℕ) → asked_of s r trial g ≡ asked_of s r trial h
+  asked-same None trial = refl
+  asked-same (Some d) trial = rw (served-same d trial, order-free.refusal n startup g h a)
 
   sample-same : (d : Asked) (trial : ℕ) → call_of s (asks d trial g) ≡ call_of s (asks d trial h)
   unfolding sample_of

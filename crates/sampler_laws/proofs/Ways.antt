@@ -1,4 +1,5 @@
 -- How a call is answered: its tests in their order, walked once for every law about calls. Assumes nothing.
+use Rattle.std.specs.Prelude.{Option, Some, None}
 use Prim.Native.Nat.{ℕ, ◌≤◌, ◌<◌}
 use native.Mathlib.Omega.{arith}
 use mathlib.Core.Path.{◌≡◌, refl, sym, ap, ◌∙◌, subst}
@@ -9,7 +10,6 @@ use lib.Ieee.Bits.{is_true}
 use borrow.Author.Tests.{eqb-true, eqb-false, ltb-true, ltb-false}
 use Rattle.arith.proofs.Tests.{taken, by-test}
 use Rattle.distribution.specs.declared.Distribution.{Distribution}
-use Rattle.distribution.specs.declared.Read.{Read}
 use Rattle.distribution_words.specs.Words.{read_of}
 use Rattle.common.specs.Random.{sample_random_of}
 use Rattle.history_rows.specs.Tests.{refusal_of}
@@ -22,7 +22,7 @@ use Rattle.sampler_laws.specs.Calls.{refused_of, with_dimension, activated, draw
 use Rattle.sampler_laws.specs.NewTrials.{past_discovery, served_history}
 use Rattle.sampler_laws.specs.Runs.{Asked, asks, call_of}
 
-abbrev pub read_asked : Asked → Read
+abbrev pub read_asked : Asked → Option Distribution
 read_asked d = read_of d.kind d.low d.high d.log d.stepped d.step
 
 -- ---- a sample call
@@ -30,7 +30,7 @@ read_asked d = read_of d.kind d.low d.high d.log d.stepped d.step
 -- the tests before the phases are passed
 pub record Passed (s : Sampler) (d : Asked) (h : List ℕ) (r : Distribution) : Type 0 where
   pub ok : T (sampler_ok s)
-  pub read : read_asked d ≡ Read.WellFormed r
+  pub read : read_asked d ≡ Some r
   pub history : refusal_of s.settings.slots h ≡ 0
 
 -- an active sampler is itself with its discovery ended
@@ -136,9 +136,9 @@ module _ (s : Sampler) (d : Asked) (trial : ℕ) (h : List ℕ) (P : Sampled →
   unfolding sample_of
   by-sample = by-test P (sampler_ok s) _ _ (λ o. asked (taken o) (read_asked d) refl) (λ o. no 11 (malformed-sampler o))
     where
-      asked : T (sampler_ok s) → (x : Read) → read_asked d ≡ x → P (asked_of s x trial h)
-      asked o Read.Malformed q = no 2 malformed-asked
-      asked o (Read.WellFormed r) q =
+      asked : T (sampler_ok s) → (x : Option Distribution) → read_asked d ≡ x → P (asked_of s x trial h)
+      asked o None q = no 2 malformed-asked
+      asked o (Some r) q =
           let n = refusal_of s.settings.slots h in
           by-test P (eqb n 0) _ _ (λ z. served r (record { ok = o; read = q; history = eqb-true n 0 z })) (λ z. no n (bad-history (eqb-false n 0 z)))
 

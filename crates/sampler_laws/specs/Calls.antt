@@ -1,8 +1,7 @@
 -- The two calls, `sample` and `close`, as one definition each. `Sampler::sample` of gp.rs is the reference; `close` is added. Definitions only.
-use Rattle.std.specs.Prelude.{ℕ, ◌+◌, true, ◌||◌, cond, List, [], eqb, ltb, set}
+use Rattle.std.specs.Prelude.{ℕ, ◌+◌, true, ◌||◌, cond, List, [], eqb, ltb, set, Option, Some, None}
 use Rattle.distribution.specs.declared.Distribution.{Distribution}
 use Rattle.distribution.specs.declared.ParamValue.{ParamValue}
-use Rattle.distribution.specs.declared.Read.{Read}
 use Rattle.distribution_words.specs.Words.{read_of}
 use Rattle.common.specs.declared.RandomDraw.{RandomDraw}
 use Rattle.common.specs.Random.{sample_random_of}
@@ -114,9 +113,9 @@ served_of s d trial h =
 -- ---- the calls
 
 -- "asked distribution malformed 2", then the history's number
-abbrev pub asked_of : Sampler → Read → ℕ → List ℕ → Sampled
-asked_of s Read.Malformed trial h = refused_of s 2
-asked_of s (Read.WellFormed d) trial h = cond (eqb (refusal_of s.settings.slots h) 0) (served_of s d trial h) (refused_of s (refusal_of s.settings.slots h))
+abbrev pub asked_of : Sampler → Option Distribution → ℕ → List ℕ → Sampled
+asked_of s None trial h = refused_of s 2
+asked_of s (Some d) trial h = cond (eqb (refusal_of s.settings.slots h) 0) (served_of s d trial h) (refused_of s (refusal_of s.settings.slots h))
 
 unfoldable pub sample_of : Sampler → ℕ → ℕ → ℕ → ℕ → ℕ → ℕ → ℕ → List ℕ → Sampled
 unfolding sampler_ok served_of

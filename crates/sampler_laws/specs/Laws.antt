@@ -1,10 +1,9 @@
 -- What is promised of the calls, for every sampler and every run. Statements only, proved in proofs/.
-use Rattle.std.specs.Prelude.{ℕ, ◌+◌, ◌*◌, ◌^◌, ◌<◌, ◌≡◌, Bool, true, ◌&&◌, ◌||◌, cond, List, T, eqb, ltb, length}
+use Rattle.std.specs.Prelude.{ℕ, ◌+◌, ◌*◌, ◌^◌, ◌<◌, ◌≡◌, Bool, true, ◌&&◌, ◌||◌, cond, List, T, eqb, ltb, length, Some}
 use Rattle.std.specs.Float.{binary64}
 use Rattle.std.specs.Float.Ieee.{fits}
 use Rattle.rng_util.specs.Generator.{moved_of}
 use Rattle.distribution.specs.declared.Distribution.{Distribution}
-use Rattle.distribution.specs.declared.Read.{Read}
 use Rattle.distribution_words.specs.RoundTrip.{Held}
 use Rattle.distribution.specs.Shape.{shape_of}
 use Rattle.distribution_words.specs.Words.{read_of}
@@ -59,7 +58,7 @@ pub record WordsDrawn : Type 0 where
 
 -- ---- well-formed samplers
 
-pub record WellFormed : Type 0 where
+pub record Some : Type 0 where
   -- as made
   pub fresh : (s : Settings) → s.seed < 2 ^ 64 → T (settings_ok s) → Typed (fresh_of s) × T (sampler_ok (fresh_of s))
   -- after a call
@@ -92,5 +91,5 @@ pub record PlacesCounted : Type 0 where
   -- 9 exactly when 32 are taken and the trial has none
   pub full : (s : Sampler) (d : Asked) (trial : ℕ) (h : List ℕ) → (call_of s (asks d trial h)).number ≡ 9 → (taken_count s.places ≡ 32) × (trial_place s.places trial ≡ 32)
   pub ninth : (s : Sampler) (d : Asked) (r : Distribution) (trial : ℕ) (h : List ℕ)
-      → T (sampler_ok s) → read_of d.kind d.low d.high d.log d.stepped d.step ≡ Read.WellFormed r → refusal_of s.settings.slots h ≡ 0
+      → T (sampler_ok s) → read_of d.kind d.low d.high d.log d.stepped d.step ≡ Some r → refusal_of s.settings.slots h ≡ 0
       → taken_count s.places ≡ 32 → trial_place s.places trial ≡ 32 → (call_of s (asks d trial h)).number ≡ 9

@@ -20,7 +20,7 @@ pub fn is_present(slot: &[u64]) -> bool
 
 // What its six words of a distribution say.
 #[tactic(auto, unfolding(crate::specs::Slot::slot_read))]
-pub fn read(slot: &[u64]) -> Read
+pub fn read(slot: &[u64]) -> Option<Distribution>
     ensures { result ≡ slot_read slot.now }
 {
     distribution_words::distribution_of(
@@ -97,7 +97,7 @@ pub fn reads_equal(a: Option<Distribution>, b: Option<Distribution>) -> bool
     ensures { result ≡ reads_equal a b }
 {
     match (a, b) {
-        (Read::WellFormed(d), Read::WellFormed(e)) => distribution::equal(d, e),
+        (Some(d), Some(e)) => distribution::equal(d, e),
         _ => false,
     }
 }

@@ -1,4 +1,5 @@
 -- The definitions of texts at single points, computed. Assumes nothing.
+use Rattle.std.specs.Prelude.{Some, None}
 use Prim.Native.Nat.{ℕ, ◌^◌}
 use mathlib.Core.Path.{◌≡◌, refl}
 use mathlib.Core.Bool.{true, false}
@@ -8,7 +9,6 @@ use lib.IntN.{pos}
 use lib.Ieee.{binary64, of_bits, le, lt, eq}
 use lib.ListN.{length, take, drop}
 use Rattle.arith.specs.Lists.{every, grown}
-use Rattle.word_text.specs.declared.Parsed.{Parsed}
 use Rattle.word_text.specs.Digits.{all_digits, of_digits, last_digits}
 use Rattle.distribution.specs.declared.ParamValue.{ParamValue}
 use Rattle.settings.specs.Settings.{settings_ok}
@@ -81,9 +81,9 @@ names = (refl, refl, refl, refl, refl, refl)
 -- word 0 and word 3 of the settings line; a word with a capital letter; a line whose last space is none
 abbrev SingleWords : Type 0
 SingleWords =
-    (word_at settings 0 ≡ Parsed.Word 10)
-    × (word_at settings 3 ≡ Parsed.Word 1)
-    × (word_at (take 15 settings ++ (65 ∷ [])) 0 ≡ Parsed.Malformed)
+    (word_at settings 0 ≡ Some 10)
+    × (word_at settings 3 ≡ Some 1)
+    × (word_at (take 15 settings ++ (65 ∷ [])) 0 ≡ None)
     × (is_words 5 (take 67 settings ++ (48 ∷ drop 68 settings)) ≡ false)
 
 single-words : SingleWords

@@ -1,4 +1,5 @@
 -- Lines of words: printed and read again. Assumes nothing.
+use Rattle.std.specs.Prelude.{Option, Some, None}
 use Prim.Native.Nat.{ℕ, zero, suc, ◌+◌, ◌*◌, ◌-◌, ◌≤◌, ◌<◌}
 use mathlib.Core.Path.{◌≡◌, refl, sym, ap, ap₂, subst, ◌∙◌}
 use mathlib.Core.Bool.{Bool, true, false, ◌&&◌, false≢true, and_assoc, and-true}
@@ -10,7 +11,6 @@ use lib.ListN.{length, get_or, take, drop, length-append}
 use lib.Seq.{split_at, take_at, take_all, drop-append-add, get_or-append-add, get_or_at, length-take-le}
 use Rattle.arith.specs.Lists.{every, grown, list_of}
 use Rattle.arith.proofs.Lists.{every-not, every-same, list_same}
-use Rattle.word_text.specs.declared.Parsed.{Parsed}
 use Rattle.word_text.specs.Digits.{value_of, all_digits, digits_of, parse_of}
 use Rattle.word_text.proofs.Digits.{length_last, all-last}
 use Rattle.word_text.proofs.RoundTrip.{reads, prints}
@@ -113,12 +113,12 @@ one-word-in line n = ap (λ (s : List ℕ). word_of (parse_of s) ∷ []) (take_a
 printed : (w : ℕ) (ws : List ℕ) → Sized (w ∷ ws) → (is_words (suc (length ws)) (line_of (w ∷ ws)) ≡ true) × (words_in (suc (length ws)) (line_of (w ∷ ws)) ≡ w ∷ ws)
 unfolding line_of Sized
 printed w [] s =
-    (one_word (digits_of w) ∙ ap is_word (reads w s.0), one-word-in (digits_of w) (length_last 16 w) ∙ ap (λ (p : Parsed). word_of p ∷ []) (reads w s.0))
+    (one_word (digits_of w) ∙ ap is_word (reads w s.0), one-word-in (digits_of w) (length_last 16 w) ∙ ap (λ (p : Option ℕ). word_of p ∷ []) (reads w s.0))
 printed w (v ∷ ws) s =
     let l = length_last 16 w in
     let i = printed v ws s.1 in (
-      more-words (digits_of w) (line_of (v ∷ ws)) l (length ws) ∙ ap₂ (λ (p : Parsed) (b : Bool). is_word p && b) (reads w s.0) i.0,
-      words-front (digits_of w) (line_of (v ∷ ws)) l (length ws) ∙ ap₂ (λ (p : Parsed) (t : List ℕ). word_of p ∷ t) (reads w s.0) i.1,
+      more-words (digits_of w) (line_of (v ∷ ws)) l (length ws) ∙ ap₂ (λ (p : Option ℕ) (b : Bool). is_word p && b) (reads w s.0) i.0,
+      words-front (digits_of w) (line_of (v ∷ ws)) l (length ws) ∙ ap₂ (λ (p : Option ℕ) (t : List ℕ). word_of p ∷ t) (reads w s.0) i.1,
     )
 
 pub words-printed : (k : ℕ) (ws : List ℕ) → Words k ws → (is_words k (line_of ws) ≡ true) × (words_in k (line_of ws) ≡ ws)
@@ -128,9 +128,9 @@ words-printed k (w ∷ ws) h =
 
 -- ---- read, then printed
 
-is_word_lem : (p : Parsed) → is_word p ≡ true → p ≡ Parsed.Word (word_of p)
-is_word_lem (Parsed.Word w) h = refl
-is_word_lem Parsed.Malformed h = absurd (false≢true h)
+is_word_lem : (p : Option ℕ) → is_word p ≡ true → p ≡ Some (word_of p)
+is_word_lem (Some w) h = refl
+is_word_lem None h = absurd (false≢true h)
 
 line-cons : (w : ℕ) (ws : List ℕ) → 0 < length ws → line_of (w ∷ ws) ≡ digits_of w ++ (32 ∷ line_of ws)
 unfolding line_of

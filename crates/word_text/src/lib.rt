@@ -16,7 +16,7 @@ pub fn parse(s: &[u8]) -> Option<u64>
     for b in s {
         match value(*b) {
             Some(v) => n = n * 16 + v,
-            None => return Parsed::Malformed,
+            None => return None,
         }
     }
     Some(n)

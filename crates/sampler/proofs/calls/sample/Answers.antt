@@ -18,10 +18,10 @@ passed c = sym c.sampler_ok.ensures ∙ c.if-not-sampler_ok.false
 pub asked-requires : goal.asked-requires
 asked-requires c = dimensions-few _ (passed (goal.at.asked-requires c).Else-not-sampler_ok)
 
-pub returns-in-WellFormed : goal.returns-in-WellFormed
+pub returns-in-Some : goal.returns-in-Some
 unfolding sample_of
-returns-in-WellFormed c = rw (c.asked.ensures, passed (goal.at.returns-in-WellFormed c).Else-not-sampler_ok, sym c.distribution_of.ensures, c.in-WellFormed.is)
+returns-in-Some c = rw (c.asked.ensures, passed (goal.at.returns-in-Some c).Else-not-sampler_ok, sym c.distribution_of.ensures, c.in-Some.is)
 
-pub returns-in-Malformed : goal.returns-in-Malformed
+pub returns-in-None : goal.returns-in-None
 unfolding sample_of
-returns-in-Malformed c = rw (c.refused-in-Malformed.ensures, passed (goal.at.returns-in-Malformed c).Else-not-sampler_ok, sym c.distribution_of.ensures, c.in-Malformed.is)
+returns-in-None c = rw (c.refused-in-None.ensures, passed (goal.at.returns-in-None c).Else-not-sampler_ok, sym c.distribution_of.ensures, c.in-None.is)
