@@ -1,16 +1,15 @@
 -- The words of a line stored in an array. Assumes nothing.
 use Prim.Native.Nat.{ℕ, ◌+◌, ◌≤◌, ◌<◌}
 use mathlib.Core.Path.{◌≡◌, refl, ap, ◌∙◌}
-use mathlib.Core.Bool.{Bool, true, false, not, ◌&&◌}
+use mathlib.Core.Bool.{Bool, true, false, not}
 use mathlib.Core.List.{List, ◌++◌, append_assoc}
 use native.Mathlib.Omega.{arith}
-use borrow.Author.Tests.{le-leb, leb-true}
+use borrow.Author.Tests.{le-leb}
 use lib.Dec.{leb}
 use lib.ListN.{length, take, drop}
 use lib.Seq.{paste, take-paste, take_at, length-take-le, take_all}
 use Rattle.arith.specs.Lists.{every}
 use Rattle.arith.proofs.Lists.{every-same, place_none, place_is}
-use Rattle.arith.proofs.Tests.{both}
 use Rattle.propose_lines.specs.Lines.{word_at, is_word, words_in}
 use Rattle.propose_lines.proofs.Words.{words-length}
 use Rattle.propose_lines.specs.Stored.{leading, room_for}
@@ -46,12 +45,6 @@ pub leading-first : (k : ℕ) (line : List ℕ) (i : ℕ) → i < k → every i 
 leading-first k line i h e n = place_is k _ i h (not-not i line e) (ap not n)
 
 -- ---- the room for them
-
-pub room-facts : (k at places : ℕ) → room_for k at places ≡ true → (1 ≤ k) × (k ≤ 163) × (at + k ≤ places)
-room-facts k at places e =
-    let b = both (leb 1 k && leb k 163) (leb (at + k) places) e in
-    let c = both (leb 1 k) (leb k 163) b.0 in
-    (leb-true 1 k c.0, leb-true k 163 c.1, leb-true (at + k) places b.1)
 
 -- the test of a number of words that is in range
 pub room-test : (k at places : ℕ) → 1 ≤ k → k ≤ 163 → room_for k at places ≡ leb (at + k) places

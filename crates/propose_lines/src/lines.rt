@@ -8,31 +8,21 @@ fn is_spaced(line: &[u8], k: usize) -> bool
     requires { (1 ≤ k) × (length line.now + 1 ≡ 17 * k) }
     ensures { result ≡ spaced_of k line.now }
 {
-    let mut i = 0;
-    while i < k - 1 {
-        if line[17 * i + 16] != b' ' {
-            return false;
-        }
-        i += 1;
-    }
-    true
+    (0..k - 1).all(|i| line[17 * i + 16] == b' ')
 }
 
 // Reads the words that stand at every 17th byte into out, from `at` on.
+#[tactic(auto, unfolding(arith::specs::Lists::every))]
 fn store_words(line: &[u8], k: usize, out: &mut [u64], at: usize) -> bool
     requires { (length line.now + 1 ≡ 17 * k) × (at + k ≤ length out.old) }
     ensures { WordsStored line.now k at out.old out.new result }
 {
-    let mut i = 0;
-    while i < k {
+    for i in 0..k {
         let start = 17 * i;
-        let end = start + 16;
-        let p = word_text::parse(&line[start..end]);
-        let Some(w) = p else {
+        let Parsed::Word(w) = word_text::parse(&line[start..start + 16]) else {
             return false;
         };
         out[at + i] = w;
-        i += 1;
     }
     true
 }
@@ -41,29 +31,16 @@ fn store_words(line: &[u8], k: usize, out: &mut [u64], at: usize) -> bool
 fn has_room(k: usize, at: usize, places: usize) -> bool
     ensures { result ≡ room_for k at places }
 {
-    if k < 1 {
-        return false;
-    }
-    if k > 163 {
-        return false;
-    }
-    if places < k {
-        return false;
-    }
-    at <= places - k
+    (1..=163).contains(&k) && k <= places && at <= places - k
 }
 
 // Whether a line is k words, and they, from `at` on. What stands before `at` stays. Where there is no room for k words, or for none or over 163: false, and all stays.
+#[tactic(auto, unfolding(crate::specs::Lines::is_words))]
 pub fn read_words(line: &[u8], k: usize, out: &mut [u64], at: usize) -> bool
     ensures { WordsRead line.now k at out.old out.new result }
 {
-    if !has_room(k, at, out.len()) {
-        return false;
-    }
-    if line.len() != 17 * k - 1 {
-        return false;
-    }
-    if !is_spaced(line, k) {
+    let places = out.len();
+    if !has_room(k, at, places) || line.len() != 17 * k - 1 || !is_spaced(line, k) {
         return false;
     }
     store_words(line, k, out, at)

@@ -1,11 +1,7 @@
-use Prim.Native.Nat.{◌-◌, ◌≤◌}
 use mathlib.Core.Path.{◌≡◌}
 use Rattle.arith.specs.Lists.{padded}
 use Rattle.prediction.specs.Predict.{kernel_vector_of}
 use Rattle.prediction.proofs.predicting.kernel_vector.Given as goal
 
 abbrev pub invariant-loop-i : goal.invariant-loop-i
-invariant-loop-i l = (l.i ≤ l.n) × (l.out ≡ padded 100 (kernel_vector_of l.x l.i l.d l.lengthscales l.p))
-
-abbrev pub decreases-loop-i : goal.decreases-loop-i
-decreases-loop-i l = l.n - l.i
+invariant-loop-i l = l.out ≡ padded 100 (kernel_vector_of l.x l.i l.d l.lengthscales l.p)

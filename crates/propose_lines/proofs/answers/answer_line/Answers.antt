@@ -7,4 +7,4 @@ use Rattle.propose_lines.proofs.answers.answer_line.Goals as goal
 
 pub returns : goal.returns
 unfolding answer_line
-returns c = rw (c.put.ensures, c.put-three.ensures, c.put-two.ensures, c.put-one.ensures) (four-words (replicate 68 0) _ _ _ _ refl)
+returns c = rw (c.put-4.ensures, c.put-3.ensures, c.put-2.ensures, c.put.ensures) (four-words (replicate 68 0) _ _ _ _ refl)

@@ -1,37 +1,28 @@
--- `propose_lines::answers::put` meets its contract. Assumes nothing.
-use Prim.Native.Nat.{◌+◌}
+-- `propose_lines::answers::put` meets its contract: the digits copied, and the byte after them. Assumes nothing.
+use Prim.Native.Nat.{ℕ, ◌+◌, ◌-◌}
 use mathlib.Core.Path.{◌≡◌, sym, ap, ◌∙◌}
-use mathlib.Core.List.{[], ◌∷◌}
-use native.Mathlib.Numerals.{add-one}
+use mathlib.Core.List.{List, [], ◌∷◌, ◌++◌}
 use native.Mathlib.Omega.{arith}
-use borrow.Author.Rules.{rules}
-use lib.ListN.{set, get_or-append}
-use lib.Seq.{paste, paste-zero, paste-suc, get_or_at}
+use borrow.Rule.Slice.PartMut.{put_mid}
+use lib.ListN.{set, take, drop}
+use lib.Seq.{paste, paste-suc, get_or_at, take_at, take_all}
+use Rattle.std.proofs.lemmas.Slice.{put_mid-paste}
 use Rattle.word_text.specs.Digits.{digits_of}
 use Rattle.word_text.proofs.Digits.{length_last}
 use Rattle.propose_lines.specs.Lines.{printed}
 use Rattle.propose_lines.proofs.AnswerLine.{printed-length}
 use Rattle.propose_lines.proofs.answers.put.Goals as goal
 
-pub loop-i-init : goal.loop-i-init
-loop-i-init c =
-    let a = c.args in
-    (search rules, search rules, search rules, c.print-digits.ensures, paste-zero a.line a.at (printed a.w a.end))
-
-pub loop-i-preserved : goal.loop-i-preserved
-loop-i-preserved c =
-    let a = c.args in
-    let l = c.loop-i in
-    let n = printed-length a.w a.end in
-    let d = length_last 16 a.w in
-    let e = get_or-append (digits_of a.w) (a.end ∷ []) 0 l.i (omega arith) in
-    (search rules, search rules, l.invariant.2, l.invariant.3, rw (l.invariant.3, l.invariant.4, sym e, add-one) (paste-suc a.line a.at (printed a.w a.end) l.i 0 (omega arith) (omega arith)))
-
 pub returns : goal.returns
 returns c =
     let a = c.args in
-    let l = c.loop-i in
-    let i : l.i ≡ 16 = omega arith in
+    let z = a.line.now in
+    let digits = digits_of a.w in
+    let d = length_last 16 a.w in
     let n = printed-length a.w a.end in
-    let e = get_or_at (digits_of a.w) a.end [] 0 16 (length_last 16 a.w) in
-    rw (l.invariant.4, i) (ap (set (paste a.line a.at (printed a.w a.end) 16) (a.at + 16)) (sym e) ∙ paste-suc a.line a.at (printed a.w a.end) 16 0 (omega arith) (omega arith))
+    let same : take 16 digits ≡ take 16 (printed a.w a.end) = take_all 16 digits (omega arith) ∙ sym (take_at digits (a.end ∷ []) 16 d) in
+    let copied : put_mid a.at (a.at + 16 - a.at) z c.copy_from_slice.new.self ≡ paste z a.at (printed a.w a.end) 16 =
+    put_mid-paste a.at (a.at + 16 - a.at) z _ digits 16 (c.copy_from_slice.ensures.after ∙ c.print.ensures) (omega arith) (omega arith)
+    ∙ ap (λ (s : List ℕ). take a.at z ++ s ++ drop (a.at + 16) z) same in
+    let e = get_or_at digits a.end [] 0 16 d in
+    rw copied (ap (set (paste z a.at (printed a.w a.end) 16) (a.at + 16)) (sym e) ∙ paste-suc z a.at (printed a.w a.end) 16 0 (omega arith) (omega arith))

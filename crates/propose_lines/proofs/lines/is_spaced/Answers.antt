@@ -1,32 +1,13 @@
--- `propose_lines::lines::is_spaced` meets its contract. Assumes nothing.
-use Prim.Native.Nat.{ℕ, ◌+◌, ◌*◌, ◌-◌}
-use mathlib.Core.Path.{◌≡◌, refl, sym, ap, ◌∙◌}
-use native.Mathlib.Numerals.{add-one}
-use native.Mathlib.Omega.{arith}
-use borrow.Author.Rules.{rules}
-use borrow.Author.Tests.{eq-eqb, ne_eqb}
-use lib.Dec.{eqb}
-use lib.ListN.{get_or}
-use Rattle.arith.specs.Lists.{every}
-use Rattle.arith.proofs.Lists.{every-not}
+-- `propose_lines::lines::is_spaced` meets its contract, by what `all` answers. Assumes nothing.
+use Rattle.std.proofs.Common.{◌≡◌, ◌+◌, ◌*◌, ◌-◌, get_or, eqb, true, false, rules, refl, arith}
+use Rattle.std.proofs.lemmas.Iterator.{cases_from_all, YieldsList-from_range}
+use borrow.Author.Tests.{tests}
+use Rattle.arith.proofs.Every.{all_below}
 use Rattle.propose_lines.proofs.lines.is_spaced.Goals as goal
-
-pub loop-i-init : goal.loop-i-init
-unfolding every
-loop-i-init c = (search rules, search rules, search rules, refl)
-
-pub returns-then-line-i-ne32 : goal.returns-then-line-i-ne32
-returns-then-line-i-ne32 c =
-    sym (every-not _ _ c.loop-i.i (omega arith) (ne_eqb _ 32 c.if-line-i-ne32.true))
-
-pub loop-i-preserved : goal.loop-i-preserved
-unfolding every
-loop-i-preserved c =
-    (search rules, search rules, search rules, rw (add-one, c.loop-i.invariant.3) (eq-eqb _ 32 c.if-line-i-ne32.false))
 
 pub returns : goal.returns
 returns c =
-    let l = c.loop-i in
-    let a = c.args in
-    let e : l.i ≡ a.k - 1 = omega arith in
-    sym l.invariant.3 ∙ ap (λ (n : ℕ). every n (λ j. eqb (get_or a.line.now (17 * j + 16) 0) 32)) e
+    let n = c.args.k - 1 in
+    let space = λ (i : _). eqb (get_or c.args.line.now (17 * i + 16) 0) 32 in
+    all_below n space c.all.result
+    (cases_from_all _ _ _ (λ i. space i ≡ true) (λ i. space i ≡ false) c.all.ensures.ran (YieldsList-from_range 0 n n refl (omega arith)) (λ x q k. search (rules, tests)) (λ x q k. search (rules, tests)))

@@ -1,43 +1,37 @@
 -- `propose_lines::lines::store_words` meets its contract. The loop's invariant: the first i words stand in the array from `at` on. Assumes nothing.
-use Prim.Native.Nat.{ℕ, ◌+◌, ◌*◌, ◌-◌}
-use mathlib.Core.Path.{◌≡◌, refl, sym, ap, ◌∙◌}
-use mathlib.Core.Bool.{false, false≢true}
+use Prim.Native.Nat.{◌+◌, ◌*◌, ◌-◌}
+use mathlib.Core.Path.{◌≡◌, sym, ap, ◌∙◌}
+use mathlib.Core.Bool.{true, false, false≢true}
 use native.Mathlib.Numerals.{add-one}
 use native.Mathlib.Omega.{arith}
 use borrow.Author.Rules.{rules}
 use lib.ListN.{set, length-set}
-use lib.Seq.{paste, paste-zero, paste-suc}
+use lib.Seq.{paste, paste-suc}
 use Rattle.arith.specs.Lists.{every}
 use Rattle.arith.proofs.Lists.{every-not}
 use Rattle.propose_lines.specs.Lines.{is_word, word_of, word_at, words_in}
 use Rattle.propose_lines.proofs.Words.{words-length, words-at}
 use Rattle.propose_lines.proofs.Stored.{words-kept, words-read, leading-all, leading-first}
 use Rattle.propose_lines.proofs.lines.store_words.Goals as goal
-use Rattle.propose_lines.proofs.lines.store_words.Goals.{After-parse-p}
-
-pub loop-i-init : goal.loop-i-init
-unfolding every
-loop-i-init c =
-    let a = c.args in
-    (search rules, search rules, search rules, refl, refl, paste-zero a.out.now a.at (words_in a.k a.line.now))
+use Rattle.propose_lines.proofs.lines.store_words.Goals.{After-parse}
 
 -- the word that is read is word i of the line
-parsed : (c : After-parse-p) → word_at c.args.line.now c.loop-i.i ≡ c.parse-p.result
+parsed : (c : After-parse) → word_at c.args.line.now c.loop-i.i ≡ c.parse.result
 unfolding word_at
 parsed c =
     let i = c.loop-i.i in
     let e : 17 * i + 16 - 17 * i ≡ 16 = omega arith in
-    sym (rw e at c.parse-p.ensures)
+    sym (rw e at c.parse.ensures)
 
 pub returns-in_default : goal.returns-in_default
 returns-in_default c =
     let a = c.args in
-    let bad : is_word (word_at a.line.now c.loop-i.i) ≡ false = ap is_word (parsed (goal.at.returns-in_default c).After-parse-p ∙ c.in_default.is) in
+    let bad : is_word (word_at a.line.now c.loop-i.i) ≡ false = ap is_word (parsed (goal.at.returns-in_default c).After-parse ∙ c.in_default.is) in
     record {
       is = sym (every-not _ _ c.loop-i.i (omega arith) bad);
-      kept = rw c.loop-i.invariant.5 (words-kept a.out.now a.at a.k a.line.now (omega arith) c.loop-i.i (omega arith));
+      kept = rw c.loop-i.invariant.4 (words-kept a.out.now a.at a.k a.line.now (omega arith) c.loop-i.i (omega arith));
       read = λ e. absurd (false≢true e);
-      left = rw (leading-first a.k a.line.now c.loop-i.i (omega arith) c.loop-i.invariant.3 bad) c.loop-i.invariant.5;
+      left = rw (leading-first a.k a.line.now c.loop-i.i (omega arith) c.loop-i.invariant.2 bad) c.loop-i.invariant.4;
     }
 
 pub loop-i-preserved : goal.loop-i-preserved
@@ -45,14 +39,13 @@ unfolding every
 loop-i-preserved c =
     let a = c.args in
     let n = words-length a.k a.line.now in
-    let w = parsed (goal.at.loop-i-preserved c).After-parse-p ∙ c.in-Some.is in
+    let w = parsed (goal.at.loop-i-preserved c).After-parse ∙ c.in-Word.is in
     let v = words-at a.k a.line.now c.loop-i.i (omega arith) ∙ ap word_of w in (
       search rules,
       search rules,
-      search rules,
-      rw (add-one, c.loop-i.invariant.3, w),
-      simp length-set c.loop-i.invariant.4,
-      rw (c.loop-i.invariant.5, add-one) (ap (set (paste a.out.now a.at (words_in a.k a.line.now) c.loop-i.i) (a.at + c.loop-i.i)) (sym v) ∙ paste-suc a.out.now a.at (words_in a.k a.line.now) c.loop-i.i 0 (omega arith) (omega arith)),
+      rw (add-one, c.loop-i.invariant.2, w),
+      simp length-set c.loop-i.invariant.3,
+      rw (c.loop-i.invariant.4, add-one) (ap (set (paste a.out.now a.at (words_in a.k a.line.now) c.loop-i.i) (a.at + c.loop-i.i)) (sym v) ∙ paste-suc a.out.now a.at (words_in a.k a.line.now) c.loop-i.i 0 (omega arith) (omega arith)),
     )
 
 pub returns : goal.returns
@@ -60,9 +53,10 @@ returns c =
     let l = c.loop-i in
     let a = c.args in
     let e : l.i ≡ a.k = omega arith in
+    let all : every a.k (λ j. is_word (word_at a.line.now j)) ≡ true = rw e at l.invariant.2 in
     record {
-      is = sym (ap (λ (n : ℕ). every n (λ j. is_word (word_at a.line.now j))) (sym e) ∙ l.invariant.3);
-      kept = rw l.invariant.5 (words-kept a.out.now a.at a.k a.line.now (omega arith) l.i (omega arith));
-      read = λ _. rw (l.invariant.5, e) (words-read a.out.now a.at a.k a.line.now (omega arith));
-      left = l.invariant.5 ∙ ap (paste a.out.now a.at (words_in a.k a.line.now)) (e ∙ sym (leading-all a.k a.line.now (ap (λ (n : ℕ). every n (λ j. is_word (word_at a.line.now j))) (sym e) ∙ l.invariant.3)));
+      is = sym all;
+      kept = rw l.invariant.4 (words-kept a.out.now a.at a.k a.line.now (omega arith) l.i (omega arith));
+      read = λ _. rw (l.invariant.4, e) (words-read a.out.now a.at a.k a.line.now (omega arith));
+      left = l.invariant.4 ∙ ap (paste a.out.now a.at (words_in a.k a.line.now)) (e ∙ sym (leading-all a.k a.line.now all));
     }
