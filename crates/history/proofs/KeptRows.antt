@@ -1,18 +1,17 @@
 -- The rows that train: each is one of the rows and has a slot for each column. Assumes nothing.
 use mathlib.Core.Bool.{Bool}
 use mathlib.Core.List.{List}
-use Prim.Native.Nat.{ℕ, zero, suc, ◌+◌, ◌*◌, ◌/◌, ◌%◌, ◌≤◌, ◌<◌}
-use native.Mathlib.Nat.{le_trans, div-lt_iff_lt-mul, mod-lt, zero-lt-suc}
+use Prim.Native.Nat.{ℕ, zero, suc, ◌*◌, ◌/◌, ◌%◌, ◌<◌}
+use native.Mathlib.Nat.{div-lt_iff_lt-mul, mod-lt, zero-lt-suc}
 use native.Mathlib.Omega.{arith}
-use mathlib.Core.Path.{◌≡◌}
 use lib.Dec.{T, ltb, ltb→lt}
 use lib.ListN.{length, get_or}
 use lib.Ieee.Fits.{and_r}
 use Rattle.arith.specs.Lists.{places_of}
-use Rattle.arith.proofs.Lists.{every-each, places-at, row-end}
+use Rattle.arith.proofs.Lists.{every-each, places-at}
 use Rattle.param_mapping.specs.declared.Mapped.{Mapped}
 use Rattle.history.specs.Cells.{Cells}
-use Rattle.history_rows.specs.Rows.{width_of, row_count, row_at}
+use Rattle.history_rows.specs.Rows.{row_count, row_at}
 use Rattle.param_mapping.specs.Mapping.{none}
 use Rattle.history_rows.specs.Slots.{slot_with}
 use Rattle.history.specs.Training.{covers_of, trains_of, kept_of}
@@ -41,28 +40,16 @@ covered-slot : (n : ℕ) (row : List ℕ) (m : Mapped) → T (covers_of n row m)
 unfolding covers_of
 covered-slot n row m t = ltb→lt (slot_with n row m.id) n (and_r m.found (ltb (slot_with n row m.id) n) t)
 
--- what the code asks at place p of the table
-pub record Asked (n m : ℕ) (mapping : List Mapped) (columns r kept : List ℕ) (p : ℕ) : Type 0 where
-  pub many : 0 < length columns
-  pub row : p / length columns < length kept
-  pub column : p % length columns < length columns
-  pub inside : get_or kept (p / length columns) 0 * width_of n + width_of n ≤ length r
-  pub small : get_or columns (p % length columns) 0 < 20
-  pub found : slot_with n (row_at n r (get_or kept (p / length columns) 0)) (get_or mapping (get_or columns (p % length columns) 0) none).id < n
+-- place p of the table is of one of the dimensions, for which its row has a slot
+module _ {n m : ℕ} {mapping : List Mapped} {columns r kept : List ℕ} {p : ℕ} (cells : Cells n m mapping columns r kept) (l : p < length kept * length columns) where
+  place : (p / length columns < length kept) × (p % length columns < length columns)
+  place = cell p (length kept) (length columns) l
 
-pub asked : (n m : ℕ) (mapping : List Mapped) (columns r kept : List ℕ) (p : ℕ) → Cells n m mapping columns r kept → length r ≡ m * width_of n → p < length kept * length columns → Asked n m mapping columns r kept p
-asked n m mapping columns r kept p t e l =
-    let q = cell p (length kept) (length columns) l in
-    let i = get_or kept (p / length columns) 0 in
-    let s = row-end i m (width_of n) (t.row (p / length columns) q.0) in
-    record {
-      many = le_trans (zero-lt-suc (p % length columns)) q.1;
-      row = q.0;
-      column = q.1;
-      inside = omega arith;
-      small = t.column (p % length columns) q.1;
-      found = covered-slot n (row_at n r i) (get_or mapping (get_or columns (p % length columns) 0) none) (t.covered (p / length columns) q.0 (p % length columns) q.1);
-    }
+  pub cell-small : get_or columns (p % length columns) 0 < 20
+  cell-small = cells.column (p % length columns) place.1
+
+  pub cell-found : slot_with n (row_at n r (get_or kept (p / length columns) 0)) (get_or mapping (get_or columns (p % length columns) 0) none).id < n
+  cell-found = covered-slot n _ _ (cells.covered (p / length columns) place.0 (p % length columns) place.1)
 
 -- the rows of m that train
 pub train-cells : (n m : ℕ) (mapping : List Mapped) (columns r : List ℕ) → ((c : ℕ) → c < length columns → get_or columns c 0 < 20)

@@ -1,182 +1,97 @@
 // The training data of the recent rows.
-ghost use Rattle.std.specs.Prelude.{◌≡◌, ℕ, ◌*◌, ◌≤◌, ◌<◌, length, get_or};
+ghost use Rattle.std.specs.Prelude.{◌≡◌, ℕ, ◌≤◌, ◌<◌, length, get_or};
 ghost use Rattle.arith.specs.Lists.{filled, padded, places_of};
 ghost use Rattle.history.specs.Cells.{Cells};
 ghost use Rattle.param_mapping.specs.Mapping.{none, mapped_of};
 ghost use Rattle.history.specs.Places.{places_in};
-ghost use Rattle.history_rows.specs.Rows.{width_of, row_at, row_count};
-ghost use Rattle.history_rows.specs.Slots.{slot_with};
-ghost use Rattle.history.specs.Training.{covers_of, trains_of, entry_of, column_of, x_of, y_of, built_of, refused_of, recent_training, training_of};
+ghost use Rattle.history_rows.specs.Rows.{row_at, row_count};
+ghost use Rattle.history.specs.Training.{trains_of, x_of, y_of, built_of, refused_of, recent_training, training_of};
 
+use crate::columns::Columns;
+use crate::rows::Rows;
 use crate::{Places, Training, columns};
 use dimensions::DimensionInfo;
 use param_mapping::Mapped;
 
-// Whether a row has a slot for a dimension of that mapping.
-fn covers(n: usize, row: &[u64], m: Mapped) -> bool
-    requires { (n ≤ 20) × (length row.now ≡ width_of n) }
-    ensures { result ≡ covers_of n row.now m }
+// The rows that train.
+fn kept(rows: &Rows, columns: &Columns) -> Places
+    ensures { result ≡ places_in (places_of rows.now.count (λ i. trains_of rows.now.slots columns.now.mapping.now columns.now.places.now (row_at rows.now.slots rows.now.words.now i))) }
 {
-    m.found && history_rows::slot_place(n, row, m.id) < n
-}
-
-// Whether a row has one for each of these dimensions.
-fn trains(n: usize, mapping: [Mapped; 20], columns: &[usize], row: &[u64]) -> bool
-    requires { (n ≤ 20) × (length row.now ≡ width_of n) × ((c : ℕ) → c < length columns.now → get_or columns.now c 0 < 20) }
-    ensures { result ≡ trains_of n mapping columns.now row.now }
-{
-    let mut c = 0;
-    while c < columns.len() {
-        let j = columns[c];
-        if !covers(n, row, mapping[j]) {
-            return false;
+    let mut places = Places::new();
+    for i in 0..rows.count {
+        if columns.trains(&rows.row(i)) {
+            places.push(i);
         }
-        c += 1;
-    }
-    true
-}
-
-// The rows of m that train.
-fn kept(n: usize, m: usize, r: &[u64], mapping: [Mapped; 20], columns: &[usize]) -> Places
-    requires { (n ≤ 20) × (m ≤ 100) × (length r.now ≡ m * width_of n) × ((c : ℕ) → c < length columns.now → get_or columns.now c 0 < 20) }
-    ensures { result ≡ places_in (places_of m (λ i. trains_of n mapping columns.now (row_at n r.now i))) }
-{
-    let w = 3 + 8 * n;
-    let mut places = Places {
-        count: 0,
-        at: [0; 100],
-    };
-    let mut i = 0;
-    while i < m {
-        let start = i * w;
-        let at = places.at;
-        let test = trains(n, mapping, columns, &r[start..start + w]);
-        places = columns::with_place(at, places.count, i, test);
-        i += 1;
     }
     places
 }
 
-// A slot's value under a dimension.
-fn entry(d: DimensionInfo, slot: &[u64]) -> f64
-    requires { length slot.now ≡ 8 }
-    ensures { result ≡ entry_of d slot.now }
-{
-    let distribution = d.distribution;
-    let internal = encoding::to_internal(slots::value(slot), distribution);
-    scaling::to_normalized(arith::value(internal), d.lo, d.hi)
-}
-
-// A row's value for dimension j.
-fn column(n: usize, dims: [DimensionInfo; 20], mapping: [Mapped; 20], row: &[u64], j: usize) -> f64
-    requires { (n ≤ 20) × (length row.now ≡ width_of n) × (j < 20) × (slot_with n row.now (get_or mapping j none).id < n) }
-    ensures { result ≡ column_of n dims mapping row.now j }
-{
-    let m = mapping[j];
-    let s = history_rows::slot_place(n, row, m.id);
-    let at = 3 + 8 * s;
-    entry(dims[j], &row[at..at + 8])
-}
-
 // The values of the kept rows, row after row.
-fn x_train(
-    n: usize,
-    m: usize,
-    dims: [DimensionInfo; 20],
-    mapping: [Mapped; 20],
-    columns: &[usize],
-    r: &[u64],
-    kept: &[usize],
-) -> [f64; 2000]
-    requires { (n ≤ 20) × (length r.now ≡ m * width_of n) × (length columns.now ≤ 20) × (length kept.now ≤ 100) × Cells n m mapping columns.now r.now kept.now }
-    ensures { result ≡ padded 2000 (x_of n dims mapping columns.now r.now kept.now) }
+fn x_train(rows: &Rows, columns: &Columns, kept: &[usize]) -> [f64; 2000]
+    requires { (length kept.now ≤ 100) × Cells rows.now.slots rows.now.count columns.now.mapping.now columns.now.places.now rows.now.words.now kept.now }
+    ensures { result ≡ padded 2000 (x_of rows.now.slots columns.now.dims.now columns.now.mapping.now columns.now.places.now rows.now.words.now kept.now) }
 {
-    let w = 3 + 8 * n;
-    let d = columns.len();
+    let d = columns.places.len();
     let mut out = [0.0; 2000];
-    let mut p = 0;
-    while p < kept.len() * d {
-        let start = kept[p / d] * w;
-        out[p] = column(n, dims, mapping, &r[start..start + w], columns[p % d]);
-        p += 1;
+    for p in 0..kept.len() * d {
+        out[p] = columns.value(&rows.row(kept[p / d]), columns.places[p % d]);
     }
     out
 }
 
 // The objectives of the kept rows.
-fn y_train(n: usize, m: usize, r: &[u64], kept: &[usize]) -> [f64; 100]
-    requires { (n ≤ 20) × (length r.now ≡ m * width_of n) × (length kept.now ≤ 100) × ((c : ℕ) → c < length kept.now → get_or kept.now c 0 < m) }
-    ensures { result ≡ padded 100 (y_of n r.now kept.now) }
+fn y_train(rows: &Rows, kept: &[usize]) -> [f64; 100]
+    requires { (length kept.now ≤ 100) × ((c : ℕ) → c < length kept.now → get_or kept.now c 0 < rows.now.count) }
+    ensures { result ≡ padded 100 (y_of rows.now.slots rows.now.words.now kept.now) }
 {
-    let w = 3 + 8 * n;
     let mut out = [0.0; 100];
-    let mut c = 0;
-    while c < kept.len() {
-        let start = kept[c] * w;
-        out[c] = arith::float_of_word(r[start + 2]);
-        c += 1;
+    for (c, i) in kept.iter().enumerate() {
+        out[c] = rows.row(*i).objective();
     }
     out
 }
 
 // The training data of the kept rows.
-fn built(
-    n: usize,
-    m: usize,
-    dims: [DimensionInfo; 20],
-    mapping: [Mapped; 20],
-    columns: &[usize],
-    r: &[u64],
-    kept: &[usize],
-) -> Training
-    requires { (n ≤ 20) × (length r.now ≡ m * width_of n) × (length columns.now ≤ 20) × (length kept.now ≤ 100) × Cells n m mapping columns.now r.now kept.now }
-    ensures { result ≡ built_of n dims mapping columns.now r.now kept.now }
+fn built(rows: &Rows, columns: &Columns, kept: &[usize]) -> Training
+    requires { (length kept.now ≤ 100) × Cells rows.now.slots rows.now.count columns.now.mapping.now columns.now.places.now rows.now.words.now kept.now }
+    ensures { result ≡ built_of rows.now.slots columns.now.dims.now columns.now.mapping.now columns.now.places.now rows.now.words.now kept.now }
 {
-    let x = x_train(n, m, dims, mapping, columns, r, kept);
-    let y = y_train(n, m, r, kept);
+    let x = x_train(rows, columns, kept);
+    let y = y_train(rows, kept);
     Training {
         number: 0,
         n: kept.len(),
-        d: columns.len(),
+        d: columns.places.len(),
         x,
         y,
     }
 }
 
-// The training data of m rows for these columns.
-fn of_columns(
-    n: usize,
-    m: usize,
-    dims: [DimensionInfo; 20],
-    mapping: [Mapped; 20],
-    columns: &[usize],
-    r: &[u64],
-) -> Training
-    requires { (n ≤ 20) × (m ≤ 100) × (length r.now ≡ m * width_of n) × (length columns.now ≤ 20) × ((c : ℕ) → c < length columns.now → get_or columns.now c 0 < 20) }
-    ensures { result ≡ built_of n dims mapping columns.now r.now (places_of m (λ i. trains_of n mapping columns.now (row_at n r.now i))) }
+// The training data of the rows for these columns.
+fn of_columns(rows: &Rows, columns: &Columns) -> Training
+    ensures { result ≡ built_of rows.now.slots columns.now.dims.now columns.now.mapping.now columns.now.places.now rows.now.words.now (places_of rows.now.count (λ i. trains_of rows.now.slots columns.now.mapping.now columns.now.places.now (row_at rows.now.slots rows.now.words.now i))) }
 {
-    let rows = kept(n, m, r, mapping, columns);
-    let count = rows.count;
-    let at = rows.at;
-    built(n, m, dims, mapping, columns, r, &at[0..count])
+    let kept = kept(rows, columns);
+    built(rows, columns, &kept.at[..kept.count])
 }
 
-// The training data of m recent rows, by the mapping from the first of them.
+// The training data of the recent rows, by the mapping from the first of them.
 fn recent_training(
-    n: usize,
-    dims: [DimensionInfo; 20],
+    rows: &Rows,
+    dims: &[DimensionInfo; 20],
     k: usize,
-    mapping: [Mapped; 20],
-    m: usize,
-    r: &[u64],
+    mapping: &[Mapped; 20],
 ) -> Training
-    requires { (n ≤ 20) × (k ≤ 20) × (m ≤ 100) × (m ≡ row_count n r.now) × (length r.now ≡ m * width_of n) × (mapping ≡ filled none 20 (mapped_of n dims k (row_at n r.now 0))) }
-    ensures { result ≡ recent_training n dims k r.now }
+    requires { (k ≤ 20) × (rows.now.count ≡ row_count rows.now.slots rows.now.words.now) × (mapping.now ≡ filled none 20 (mapped_of rows.now.slots dims.now k (row_at rows.now.slots rows.now.words.now 0))) }
+    ensures { result ≡ recent_training rows.now.slots dims.now k rows.now.words.now }
 {
-    let columns = columns::columns(dims, k);
-    let d = columns.count;
-    let at = columns.at;
-    of_columns(n, m, dims, mapping, &at[0..d], r)
+    let places = columns::continuous(dims, k);
+    let columns = Columns {
+        dims,
+        mapping,
+        places: &places.at[..places.count],
+    };
+    of_columns(rows, &columns)
 }
 
 // A refusal: its number, with zeros.
@@ -197,11 +112,14 @@ pub fn build_training_data(slots: usize, dims: [DimensionInfo; 20], k: usize, h:
     ensures { result ≡ training_of slots dims k h.now }
 {
     let mapping = param_mapping::establish_param_mapping(slots, dims, k, h);
-    let ids = mapping.ids;
     if mapping.number != 0 {
         return refused(mapping.number);
     }
     let recent = history_rows::recent_part(slots, h);
-    let start = recent.start;
-    recent_training(slots, dims, k, ids, recent.rows, &h[start..])
+    let rows = Rows {
+        slots,
+        count: recent.rows,
+        words: &h[recent.start..],
+    };
+    recent_training(&rows, &dims, k, &mapping.ids)
 }

@@ -1,43 +1,93 @@
 // The continuous dimensions, the model's columns.
-ghost use Rattle.std.specs.Prelude.{◌≡◌, ◌≤◌, ◌<◌};
+ghost use Rattle.std.specs.Prelude.{◌≡◌, true, [], ℕ, ◌≤◌, ◌<◌, length, get_or};
 ghost use Rattle.dimensions.specs.Dimensions.{columns_of};
 ghost use Rattle.history.specs.Places.{places_in, with_place};
+ghost use Rattle.history.specs.Training.{trains_of, entry_of, column_of};
+ghost use Rattle.history_rows.specs.Slots.{slot_with};
+ghost use Rattle.param_mapping.specs.Mapping.{none};
 
 use crate::Places;
+use crate::rows::Row;
 use dimensions::DimensionInfo;
+use param_mapping::Mapped;
 
-// One more place, where the test holds.
-pub(crate) fn with_place(at: [usize; 100], count: usize, i: usize, test: bool) -> Places
-    requires { count < 100 }
-    ensures { result ≡ with_place at count i test }
-{
-    let mut at = at;
-    if test {
-        at[count] = i;
-        return Places {
-            count: count + 1,
-            at,
-        };
+impl Places {
+    // No place.
+    pub(crate) fn new() -> Self
+        ensures { result ≡ places_in [] }
+    {
+        Self {
+            count: 0,
+            at: [0; 100],
+        }
     }
-    Places { count, at }
+
+    // One more place.
+    pub(crate) fn push(&mut self, i: usize)
+        requires { self.old.count < 100 }
+        ensures { self.new ≡ with_place self.old.at self.old.count i true }
+    {
+        self.at[self.count] = i;
+        self.count += 1;
+    }
 }
 
-// The continuous ones.
-pub(crate) fn columns(dims: [DimensionInfo; 20], k: usize) -> Places
+// The continuous ones of k dimensions.
+pub(crate) fn continuous(dims: &[DimensionInfo; 20], k: usize) -> Places
     requires { k ≤ 20 }
-    ensures { result ≡ places_in (columns_of dims k) }
+    ensures { result ≡ places_in (columns_of dims.now k) }
 {
-    let mut places = Places {
-        count: 0,
-        at: [0; 100],
-    };
-    let mut j = 0;
-    while j < k {
+    let mut places = Places::new();
+    for j in 0..k {
         let dim = dims[j];
-        let distribution = dim.distribution;
-        let at = places.at;
-        places = with_place(at, places.count, j, dimensions::is_continuous(distribution));
-        j += 1;
+        if dimensions::is_continuous(dim.distribution) {
+            places.push(j);
+        }
     }
     places
+}
+
+// A slot's value under a dimension.
+#[tactic(auto, unfolding(crate::specs::Training::entry_of))]
+fn entry(d: DimensionInfo, slot: &[u64]) -> f64
+    requires { length slot.now ≡ 8 }
+    ensures { result ≡ entry_of d slot.now }
+{
+    let distribution = d.distribution;
+    let internal = encoding::to_internal(slots::value(slot), distribution);
+    scaling::to_normalized(arith::value(internal), d.lo, d.hi)
+}
+
+// Which dimensions the columns are, with all dimensions and their ids.
+#[derive(Clone, Copy)]
+pub(crate) struct Columns<'a> {
+    pub(crate) dims: &'a [DimensionInfo; 20],
+    pub(crate) mapping: &'a [Mapped; 20],
+    pub(crate) places: &'a [usize],
+    ghost few: { length places.now ≤ 20 },
+    ghost known: { (c : ℕ) → c < length places.now → get_or places.now c 0 < 20 },
+}
+
+impl<'a> Columns<'a> {
+    // Whether a row has a slot for each of them.
+    pub(crate) fn trains(&self, row: &Row) -> bool
+        ensures { result ≡ trains_of row.now.slots self.now.mapping.now self.now.places.now row.now.words.now }
+    {
+        for j in self.places {
+            if !row.covers(self.mapping[*j]) {
+                return false;
+            }
+        }
+        true
+    }
+
+    // A row's value for dimension j.
+    #[tactic(auto, unfolding(crate::specs::Training::column_of))]
+    pub(crate) fn value(&self, row: &Row, j: usize) -> f64
+        requires { (j < 20) × (slot_with row.now.slots row.now.words.now (get_or self.now.mapping.now j none).id < row.now.slots) }
+        ensures { result ≡ column_of row.now.slots self.now.dims.now self.now.mapping.now row.now.words.now j }
+    {
+        let m = self.mapping[j];
+        entry(self.dims[j], row.slot(m.id))
+    }
 }

@@ -3,6 +3,7 @@
 
 pub mod building;
 pub mod columns;
+mod rows;
 
 pub use building::build_training_data;
 

@@ -29,14 +29,21 @@ known c =
     let a = c.args in
     recent a.slots a.dims a.k a.h.now c.recent_part-recent.result (sym (ap (λ (m : Mapping). m.number) c.establish_param_mapping-mapping.ensures ∙ mapping-number a.slots a.dims a.k a.h.now) ∙ c.if-mapping-ne0.false) c.recent_part-recent.ensures
 
-pub offset_bounds-h-start : goal.offset_bounds-h-start
-offset_bounds-h-start c = let l = (known (goal.at.offset_bounds-h-start c).After-recent_part-recent).inside in omega arith
+pub offset_bounds-h-recent : goal.offset_bounds-h-recent
+offset_bounds-h-recent c = let l = (known (goal.at.offset_bounds-h-recent c).After-recent_part-recent).inside in omega arith
 
-pub slice_bounds-recent_training-count : goal.slice_bounds-recent_training-count
-slice_bounds-recent_training-count c = let l = (known (goal.at.slice_bounds-recent_training-count c).After-recent_part-recent).inside in omega arith
+pub slice_bounds-rows-count : goal.slice_bounds-rows-count
+slice_bounds-rows-count c = let l = (known (goal.at.slice_bounds-rows-count c).After-recent_part-recent).inside in omega arith
 
-pub slice_bounds-recent_training-start : goal.slice_bounds-recent_training-start
-slice_bounds-recent_training-start c = let l = (known (goal.at.slice_bounds-recent_training-start c).After-recent_part-recent).inside in omega arith
+pub slice_bounds-rows-start : goal.slice_bounds-rows-start
+slice_bounds-rows-start c = let l = (known (goal.at.slice_bounds-rows-start c).After-recent_part-recent).inside in omega arith
+
+pub invariant_of-rows : goal.invariant_of-rows
+invariant_of-rows c =
+    let k = known (goal.at.invariant_of-rows c).After-recent_part-recent in
+    let a = c.args in
+    rw (recent-part a.slots a.h.now c.recent_part-recent.result.start k.start, k.rows)
+    (record { narrow = k.slots; few = recent-few a.slots a.h.now k.whole; whole = recent-whole a.slots a.h.now k.whole })
 
 pub recent_training-requires : goal.recent_training-requires
 recent_training-requires c =
@@ -45,7 +52,7 @@ recent_training-requires c =
     let ids : c.establish_param_mapping-mapping.result.ids ≡ filled none 20 (mapped_of a.slots a.dims a.k (row_at a.slots (recent_of a.slots a.h.now) 0)) =
     ap (λ (m : Mapping). m.ids) c.establish_param_mapping-mapping.ensures ∙ mapping-ids a.slots a.dims a.k a.h.now (sym (number (goal.at.recent_training-requires c).After-establish_param_mapping-mapping) ∙ c.if-mapping-ne0.false) in
     rw (recent-part a.slots a.h.now c.recent_part-recent.result.start k.start, k.rows)
-    (k.slots, k.few, recent-few a.slots a.h.now k.whole, refl, recent-whole a.slots a.h.now k.whole, ids)
+    (k.few, refl, ids)
 
 pub returns : goal.returns
 returns c =

@@ -1,4 +1,3 @@
-use Prim.Native.Nat.{◌-◌, ◌≤◌}
 use mathlib.Core.Path.{◌≡◌}
 use Rattle.arith.specs.Lists.{places_of}
 use Rattle.history.specs.Places.{places_in}
@@ -7,7 +6,4 @@ use Rattle.history.specs.Training.{trains_of}
 use Rattle.history.proofs.building.kept.Given as goal
 
 abbrev pub invariant-loop-i : goal.invariant-loop-i
-invariant-loop-i l = (l.i ≤ l.m) × (l.places ≡ places_in (places_of l.i (λ k. trains_of l.n l.mapping l.columns (row_at l.n l.r k))))
-
-abbrev pub decreases-loop-i : goal.decreases-loop-i
-decreases-loop-i l = l.m - l.i
+invariant-loop-i l = l.places ≡ places_in (places_of l.i (λ k. trains_of l.rows.slots l.columns.mapping.now l.columns.places.now (row_at l.rows.slots l.rows.words.now k)))

@@ -1,0 +1,70 @@
+// The recent rows of a history, each of some slots.
+ghost use Rattle.std.specs.Prelude.{◌≡◌, ◌*◌, ◌≤◌, ◌<◌, length};
+ghost use Rattle.std.specs.Float.{binary64};
+ghost use Rattle.std.specs.Float.Ieee.{of_bits};
+ghost use Rattle.history_rows.specs.Rows.{width_of, row_at, slot_at, objective_of};
+ghost use Rattle.history_rows.specs.Slots.{slot_with};
+ghost use Rattle.history.specs.Training.{covers_of};
+
+use param_mapping::Mapped;
+
+// One row.
+#[derive(Clone, Copy)]
+pub(crate) struct Row<'a> {
+    pub(crate) slots: usize,
+    pub(crate) words: &'a [u64],
+    ghost narrow: { slots ≤ 20 },
+    ghost whole: { length words.now ≡ width_of slots },
+}
+
+impl<'a> Row<'a> {
+    // Whether it has a slot for a dimension of that mapping.
+    pub(crate) fn covers(&self, m: Mapped) -> bool
+        ensures { result ≡ covers_of self.now.slots self.now.words.now m }
+    {
+        m.found && history_rows::slot_place(self.slots, self.words, m.id) < self.slots
+    }
+
+    // Its slot with that id.
+    pub(crate) fn slot(&self, id: u64) -> &[u64]
+        requires { slot_with self.now.slots self.now.words.now id < self.now.slots }
+        ensures { (result.now ≡ slot_at self.now.words.now (slot_with self.now.slots self.now.words.now id)) × (length result.now ≡ 8) }
+    {
+        let s = history_rows::slot_place(self.slots, self.words, id);
+        let at = 3 + 8 * s;
+        &self.words[at..at + 8]
+    }
+
+    // Its objective.
+    pub(crate) fn objective(&self) -> f64
+        ensures { result ≡ of_bits binary64 (objective_of self.now.words.now) }
+    {
+        arith::float_of_word(self.words[2])
+    }
+}
+
+// The words of count rows.
+#[derive(Clone, Copy)]
+pub(crate) struct Rows<'a> {
+    pub(crate) slots: usize,
+    pub(crate) count: usize,
+    pub(crate) words: &'a [u64],
+    ghost narrow: { slots ≤ 20 },
+    ghost few: { count ≤ 100 },
+    ghost whole: { length words.now ≡ count * width_of slots },
+}
+
+impl<'a> Rows<'a> {
+    // Row i.
+    pub(crate) fn row(&self, i: usize) -> Row
+        requires { i < self.now.count }
+        ensures { (result.slots ≡ self.now.slots) × (result.words.now ≡ row_at self.now.slots self.now.words.now i) }
+    {
+        let width = 3 + 8 * self.slots;
+        let start = i * width;
+        Row {
+            slots: self.slots,
+            words: &self.words[start..start + width],
+        }
+    }
+}
