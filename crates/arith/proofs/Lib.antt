@@ -9,6 +9,7 @@ pub mod Lists
 pub mod Mono
 pub mod Nearest
 pub mod Order
+pub mod Passing
 pub mod Patterns
 pub mod Power
 pub mod ChoiceLaws

@@ -1,5 +1,7 @@
 mod Cases
 pub mod Checked
 pub mod Elements
+mod Indices
 pub mod Held
+mod Judged
 mod StoredValues

@@ -1,173 +1,117 @@
 // Whether a sampler is well-formed.
-ghost use Rattle.std.specs.Prelude.{◌≡◌, not, ◌&&◌, ◌||◌, ◌≤◌, ◌<◌, leb, get_or};
-ghost use Rattle.std.specs.Int.Signed.{le_z};
-ghost use Rattle.arith.specs.Lists.{every};
-ghost use Rattle.dimensions.specs.Dimensions.{dimension_at};
-ghost use Rattle.dimensions.specs.Empty.{empty_stored};
-ghost use Rattle.sampler_state.specs.State.{place_at, taken, holds, trials_once};
+ghost use Rattle.std.specs.Prelude.{◌≡◌, not, ◌&&◌, ◌||◌, ◌≤◌, eqb, leb, length};
+ghost use Rattle.std.specs.List.{list_all, zip};
+ghost use Rattle.settings.specs.Settings.{settings_ok};
+ghost use Rattle.sampler_state.specs.State.{taken, holds, trials_once};
 ghost use Rattle.sampler_state.specs.State.{stored_ok, progress_ok, place_ok, sampler_ok};
 
-use crate::{Place, Sampler, places};
+use crate::{Place, Sampler};
 use dimensions::{DimensionInfo, Stored};
 use distribution::{Distribution, IntDistribution, ParamValue};
-
-// Whether z is from lo to hi.
-fn is_between(lo: i64, hi: i64, z: i64) -> bool
-    ensures { result ≡ (le_z lo z && le_z z hi) }
-{
-    lo <= z && z <= hi
-}
 
 // Whether an int's value lies between its ends.
 fn int_ok(d: IntDistribution, value: ParamValue) -> bool
     ensures { result ≡ stored_ok (Distribution.Int d) value }
 {
     match value {
-        ParamValue::Int(z) => is_between(d.low, d.high, z),
-        ParamValue::Float(_) => false,
-        ParamValue::Categorical(_) => false,
-        ParamValue::Refused(_) => false,
+        ParamValue::Int(z) => (d.low..=d.high).contains(&z),
+        _ => false,
     }
 }
 
 // Whether a value is one that a place stores for the distribution.
+#[tactic(auto, using(crate::proofs::StoredValues::same_rule))]
 fn value_ok(d: Distribution, value: ParamValue) -> bool
     ensures { result ≡ stored_ok d value }
 {
     match d {
-        Distribution::Float(_) => distribution::taken_rule(d, value),
         Distribution::Int(i) => int_ok(i, value),
-        Distribution::Categorical(_) => distribution::taken_rule(d, value),
+        _ => distribution::taken_rule(d, value),
     }
 }
 
-// Whether each of k values is.
-fn values_ok(dims: [DimensionInfo; 20], k: usize, values: [Stored; 20]) -> bool
-    requires { k ≤ 20 }
-    ensures { result ≡ every k (λ j. stored_ok (dimension_at dims j).distribution (get_or values j empty_stored).value) }
-{
-    let mut j = 0;
-    while j < k {
-        let dim = dims[j];
-        let distribution = dim.distribution;
-        let stored = values[j];
-        let value = stored.value;
-        if !value_ok(distribution, value) {
-            return false;
-        }
-        j += 1;
-    }
-    true
+// What places are judged by: whether the sampler is active, and its dimensions.
+#[derive(Drop)]
+struct Judge<'a> {
+    active: bool,
+    dimensions: &'a [DimensionInfo],
+    ghost few: { length dimensions.now ≤ 20 },
 }
 
-// Whether a place's next dimension is from 1 to the count, and each of its values in range.
-fn progress_ok(dims: [DimensionInfo; 20], k: usize, p: Place) -> bool
-    requires { k ≤ 20 }
-    ensures { result ≡ progress_ok dims k p }
-{
-    if p.next_dim < 1 {
-        return false;
+impl Judge<'_> {
+    // Whether there is a value in range for each dimension.
+    fn values_ok(&self, values: &[Stored; 20]) -> bool
+        ensures { result ≡ list_all (λ p. stored_ok p.0.distribution p.1.value) (zip self.now.dimensions.now values.now) }
+    {
+        self.dimensions.iter().zip(values).all(|(dimension, stored)| value_ok(
+            dimension.distribution,
+            stored.value,
+        ))
     }
-    if p.next_dim > k {
-        return false;
+
+    // Whether a place's next dimension is from 1 to the count, and each of its values in range.
+    fn progress_ok(&self, place: &Place) -> bool
+        ensures { result ≡ progress_ok self.now.dimensions.now (length self.now.dimensions.now) place.now }
+    {
+        (1..=self.dimensions.len()).contains(&place.next_dim) && self.values_ok(&place.values)
     }
-    let values = p.values;
-    values_ok(dims, k, values)
+
+    // Whether a place is free, or a place of an active sampler of these dimensions.
+    #[tactic(auto, unfolding(crate::specs::State::place_ok))]
+    fn place_ok(&self, place: &Place) -> bool
+        ensures { result ≡ place_ok self.now.active self.now.dimensions.now (length self.now.dimensions.now) place.now }
+    {
+        !place.taken || (self.active && self.progress_ok(place))
+    }
+
+    // Whether each place is.
+    fn places_ok(&self, places: &[Place; 32]) -> bool
+        ensures { let dims = self.now.dimensions.now in
+            result ≡ list_all (place_ok self.now.active dims (length dims)) places.now }
+    {
+        places.iter().all(|place| self.place_ok(place))
+    }
 }
 
-// Whether a place is free, or a place of an active sampler of these dimensions.
-fn place_ok(active: bool, dims: [DimensionInfo; 20], k: usize, p: Place) -> bool
-    requires { k ≤ 20 }
-    ensures { result ≡ place_ok active dims k p }
+// Whether none of the places before a place is taken by its trial.
+fn is_new(before: &[Place], place: &Place) -> bool
+    ensures { result ≡ list_all (λ b. not (taken b && holds b.trial place.now)) before.now }
 {
-    if !places::is_taken(p) {
-        return true;
-    }
-    if !active {
-        return false;
-    }
-    progress_ok(dims, k, p)
-}
-
-// Whether each place is.
-fn places_ok(active: bool, dims: [DimensionInfo; 20], k: usize, places: [Place; 32]) -> bool
-    requires { k ≤ 20 }
-    ensures { result ≡ every 32 (λ i. place_ok active dims k (place_at places i)) }
-{
-    let mut i = 0;
-    while i < 32 {
-        if !place_ok(active, dims, k, places[i]) {
-            return false;
-        }
-        i += 1;
-    }
-    true
-}
-
-// Whether both are taken by one trial.
-fn one_trial(p: Place, q: Place) -> bool
-    ensures { result ≡ (taken p && holds p.trial q) }
-{
-    places::is_taken(p) && places::is_held(p.trial, q)
-}
-
-// Whether no place before place a is taken by its trial.
-fn trial_once(places: [Place; 32], a: usize) -> bool
-    requires { a < 32 }
-    ensures { result ≡ every a (λ b. not (taken (place_at places b) && holds (place_at places b).trial (place_at places a))) }
-{
-    let mut b = 0;
-    while b < a {
-        if one_trial(places[b], places[a]) {
-            return false;
-        }
-        b += 1;
-    }
-    true
+    before
+        .iter()
+        .all(|other| !(other.taken && place.is_held_by(other.trial)))
 }
 
 // Whether no trial takes two places.
-fn trials_once(places: [Place; 32]) -> bool
-    ensures { result ≡ trials_once places }
+fn trials_once(places: &[Place; 32]) -> bool
+    ensures { result ≡ trials_once places.now }
 {
-    let mut a = 0;
-    while a < 32 {
-        if !trial_once(places, a) {
+    for (a, place) in places.iter().enumerate() {
+        if !is_new(&places[..a], place) {
             return false;
         }
-        a += 1;
     }
     true
 }
 
-// Whether there is a dimension when active.
-fn phase_ok(active: bool, k: usize) -> bool
-    ensures { result ≡ (not active || leb 1 k) }
+// Whether its settings are in range, its word is not 0, and there is a dimension when it is active.
+fn start_ok(s: &Sampler) -> bool
+    ensures { result ≡ (settings_ok s.now.settings && not (eqb s.now.word 0) && (not s.now.active || leb 1 s.now.n_dims)) }
 {
-    !active || 1 <= k
+    settings::in_range(s.settings) && s.word != 0 && (!s.active || 1 <= s.n_dims)
 }
 
 // Whether a sampler is well-formed.
+#[tactic(auto, using(crate::proofs::Judged::dimensions_few, crate::proofs::Judged::sampler_places), unfolding(crate::specs::State::sampler_ok))]
 pub fn sampler_ok(s: Sampler) -> bool
     ensures { result ≡ sampler_ok s }
 {
-    let settings = s.settings;
-    let dims = s.dimensions;
-    let places = s.places;
-    if !settings::in_range(settings) {
+    if !start_ok(&s) || !dimensions::dimensions_ok(s.dimensions, s.n_dims) {
         return false;
     }
-    if s.word == 0 {
-        return false;
-    }
-    if !dimensions::dimensions_ok(dims, s.n_dims) {
-        return false;
-    }
-    if !phase_ok(s.active, s.n_dims) {
-        return false;
-    }
-    if !places_ok(s.active, dims, s.n_dims, places) {
-        return false;
-    }
-    trials_once(places)
+    let judge = Judge {
+        active: s.active,
+        dimensions: &s.dimensions[..s.n_dims],
+    };
+    judge.places_ok(&s.places) && trials_once(&s.places)
 }

@@ -45,6 +45,7 @@ fn fresh(settings: Settings) -> Sampler
 }
 
 // A sampler made from its settings: 1 where one is out of range, and then none is made.
+#[tactic(auto, unfolding(crate::specs::State::make_of))]
 pub fn build(settings: Settings) -> Made
     ensures { result ≡ make_of settings }
 {

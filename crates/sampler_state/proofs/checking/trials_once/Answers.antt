@@ -1,32 +1,41 @@
 -- `sampler_state::checking::trials_once` meets its contract. Assumes nothing.
-use mathlib.Core.Path.{◌≡◌, refl, sym, ap, ◌∙◌}
-use Prim.Native.Nat.{ℕ}
-use mathlib.Core.Bool.{not, ◌&&◌}
-use native.Mathlib.Numerals.{add-one}
-use native.Mathlib.Omega.{arith}
+use Rattle.std.proofs.Common.{◌≡◌, ℕ, not, sym, ap, ◌∙◌, refl, add-one, arith}
+use mathlib.Core.Bool.{◌&&◌}
 use Rattle.arith.specs.Lists.{every}
 use Rattle.arith.proofs.Lists.{every-not}
-use Rattle.sampler_state.specs.State.{place_at, taken, holds, trials_once}
-use borrow.Author.Rules.{rules}
+use Rattle.sampler_state.specs.State.{empty_place, place_at, taken, holds, trials_once}
+use Rattle.sampler_state.specs.declared.Place.{Place}
+use Rattle.std.specs.List.{list_all}
+use lib.ListN.{take}
+use Rattle.sampler_state.proofs.Elements.{same-element}
+use Rattle.arith.proofs.Passing.{all_front}
 use Rattle.sampler_state.proofs.checking.trials_once.Goals as goal
+use Rattle.sampler_state.proofs.checking.trials_once.Goals.{After-is_new}
+
+-- the test of place a by what the code says of it
+tested : (c : After-is_new) → let ps = c.args.places.now in
+    every c.loop-a.a (λ b. not (taken (place_at ps b) && holds (place_at ps b).trial (place_at ps c.loop-a.a))) ≡ c.is_new.result
+tested c =
+    let ps = c.args.places.now in
+    let a = c.loop-a.a in
+    sym (c.is_new.ensures ∙ ap (λ (p : Place). list_all (λ (q : Place). not (taken q && holds q.trial p)) (take a ps)) (same-element ps a _ empty_place (omega arith))
+    ∙ all_front (λ (q : Place). not (taken q && holds q.trial (place_at ps a))) ps empty_place a (omega arith))
 
 pub loop-a-init : goal.loop-a-init
-unfolding every
-loop-a-init c = (search rules, refl)
+loop-a-init c = unfold every in refl
 
-pub returns-then-not-trial_once : goal.returns-then-not-trial_once
+pub returns-then-not-is_new : goal.returns-then-not-is_new
 unfolding trials_once
-returns-then-not-trial_once c =
-    sym (every-not 32 _ c.loop-a.a c.loop-a-test.true (sym c.trial_once.ensures ∙ c.if-not-trial_once.true))
+returns-then-not-is_new c =
+    sym (every-not 32 _ c.loop-a.a c.loop-a-test.true (tested (goal.at.returns-then-not-is_new c).After-is_new ∙ c.if-not-is_new.true))
 
 pub loop-a-preserved : goal.loop-a-preserved
 unfolding every
-loop-a-preserved c =
-    (search rules, rw (add-one, c.loop-a.invariant.1) (sym c.trial_once.ensures ∙ c.if-not-trial_once.false))
+loop-a-preserved c = rw (add-one, c.loop-a.invariant) (tested (goal.at.loop-a-preserved c).After-is_new ∙ c.if-not-is_new.false)
 
 pub returns : goal.returns
 unfolding trials_once
 returns c =
-    let a = c.args in
+    let ps = c.args.places.now in
     let e : c.loop-a.a ≡ 32 = omega arith in
-    sym c.loop-a.invariant.1 ∙ ap (λ (n : ℕ). every n (λ i. every i (λ b. not (taken (place_at a.places b) && holds (place_at a.places b).trial (place_at a.places i))))) e
+    sym c.loop-a.invariant ∙ ap (λ (n : ℕ). every n (λ i. every i (λ b. not (taken (place_at ps b) && holds (place_at ps b).trial (place_at ps i))))) e

@@ -1,0 +1,55 @@
+-- Tests of a list's elements and of its places: all pass, the first that passes, how many pass. Assumes nothing.
+use Rattle.std.proofs.Common.{◌≡◌, ℕ, zero, suc, ◌+◌, ◌<◌, ◌≤◌, Bool, true, false, cond, ltb, List, length, get_or, take, sym, refl, ap, ◌∙◌, subst, ltb-false, add-one, arith, Some, None}
+use Rattle.std.specs.Option.{unwrap_or}
+use Rattle.std.proofs.lemmas.List.{take_all}
+use Rattle.std.proofs.lemmas.List.Folds.{list_all_more}
+use Rattle.std.proofs.lemmas.List.Sums.{position_or_len_is, count_by_more_no, count_by_more_yes}
+use Rattle.std.specs.List.{list_all, count_by, position, position_or_len}
+use lib.Ieee.Bits.{is_true}
+use Rattle.arith.specs.Lists.{every, place_of, places_of}
+use Rattle.arith.proofs.Lists.{place-most, place-before, place_found, places-next}
+
+module _ {A : Type 0} (p : A → Bool) (xs : List A) (d : A) where
+  -- the first i pass
+  pub all_front : (i : ℕ) → i ≤ length xs → list_all p (take i xs) ≡ every i (λ j. p (get_or xs j d))
+  unfolding every
+  all_front zero h = refl
+  all_front (suc i) h = rw (sym (add-one i), list_all_more p xs i d (omega arith), all_front i (omega arith))
+
+  -- all pass
+  pub all_every : (n : ℕ) → length xs ≡ n → list_all p xs ≡ every n (λ j. p (get_or xs j d))
+  all_every n e = sym (ap (list_all p) (take_all n xs (omega arith))) ∙ all_front n (omega arith)
+
+  first_place : position_or_len p xs ≡ place_of (length xs) (λ j. p (get_or xs j d))
+  first_place =
+      let t : ℕ → Bool = λ j. p (get_or xs j d) in
+      position_or_len_is p xs (place_of (length xs) t) d (place-most (length xs) t) (λ k h. place-before (length xs) t k h)
+      (λ h. is_true (t (place_of (length xs) t)) (place_found (length xs) t h))
+
+  -- the first that passes, or how many there are
+  pub position_place : (n : ℕ) → length xs ≡ n → unwrap_or (position p xs) n ≡ place_of n (λ j. p (get_or xs j d))
+  position_place n e = subst (λ (k : ℕ). unwrap_or (position p xs) k ≡ place_of k (λ j. p (get_or xs j d))) e (go (ltb (position_or_len p xs) (length xs)) refl)
+    where
+      go : (b : Bool) → ltb (position_or_len p xs) (length xs) ≡ b → unwrap_or (cond b (Some (position_or_len p xs)) None) (length xs) ≡ place_of (length xs) (λ j. p (get_or xs j d))
+      go true l = first_place
+      go false l =
+          let m = ltb-false (position_or_len p xs) (length xs) l in
+          let k = place-most (length xs) (λ j. p (get_or xs j d)) in
+          let f = first_place in omega arith
+
+  one_more : (i : ℕ) → i < length xs → (b : Bool) → p (get_or xs i d) ≡ b → count_by p (take (i + 1) xs) ≡ count_by p (take i xs) + cond b 1 0
+  one_more i h true e = count_by_more_yes p xs i d h e
+  one_more i h false e = let m = count_by_more_no p xs i d h e in omega arith
+
+  count_front : (i : ℕ) → i ≤ length xs → count_by p (take i xs) ≡ length (places_of i (λ j. p (get_or xs j d)))
+  count_front zero h = unfold places_of in refl
+  count_front (suc i) h =
+      let t : ℕ → Bool = λ j. p (get_or xs j d) in
+      let e = one_more i (omega arith) (t i) refl in
+      let f = count_front i (omega arith) in
+      let g = places-next i t in
+      ap (λ (k : ℕ). count_by p (take k xs)) (sym (add-one i)) ∙ omega arith
+
+  -- how many pass
+  pub count_places : (n : ℕ) → length xs ≡ n → count_by p xs ≡ length (places_of n (λ j. p (get_or xs j d)))
+  count_places n e = sym (ap (count_by p) (take_all n xs (omega arith))) ∙ count_front n (omega arith)

@@ -1,0 +1,63 @@
+-- Places judged by a part of the dimensions' array are judged by the array. Assumes nothing.
+use Rattle.std.proofs.Common.{◌≡◌, ℕ, ◌≤◌, Bool, true, eqb, leb, le-leb, not, sym, List, length, get_or, take, ap, arith, ◌∙◌}
+use mathlib.Core.Bool.{◌&&◌, ◌||◌}
+use Rattle.std.proofs.lemmas.List.{get_or-take, length-take-le}
+use Rattle.arith.specs.Lists.{every}
+use Rattle.arith.proofs.Lists.{every-same}
+use Rattle.dimensions.specs.declared.DimensionInfo.{DimensionInfo}
+use Rattle.dimensions.specs.Dimensions.{no_dimension, dimension_at, dimensions_ok}
+use Rattle.dimensions.specs.declared.Stored.{Stored}
+use Rattle.dimensions.specs.Empty.{empty_stored}
+use Rattle.std.specs.List.{list_all, zip}
+use Rattle.std.proofs.lemmas.Slice.Zip.{get_or-zip, length-zip}
+use Rattle.arith.proofs.Passing.{all_every}
+use Rattle.sampler_state.specs.declared.Place.{Place}
+use Rattle.sampler_state.specs.State.{empty_place, place_at, taken, stored_ok, stored_at, progress_ok, place_ok, trials_once, sampler_ok}
+use Rattle.sampler_state.specs.declared.Sampler.{Sampler}
+use Rattle.arith.proofs.Tests.{taken as taken_test}
+use Rattle.dimensions.proofs.Ok.{dimensions-ok}
+use Rattle.settings.specs.Settings.{settings_ok}
+
+-- the values beside their dimensions
+values_zip : (ds : List DimensionInfo) (vs : List Stored) → length ds ≤ length vs
+    → list_all (λ (p : DimensionInfo × Stored). stored_ok p.0.distribution p.1.value) (zip ds vs) ≡ every (length ds) (λ j. stored_ok (dimension_at ds j).distribution (get_or vs j empty_stored).value)
+values_zip ds vs h =
+    let test : DimensionInfo × Stored → Bool = λ p. stored_ok p.0.distribution p.1.value in
+    let d : DimensionInfo × Stored = (no_dimension, empty_stored) in
+    let e = length-zip ds vs in
+    all_every test (zip ds vs) d (length ds) (omega arith)
+    ∙ every-same (length ds) _ _ (λ i l. ap test (get_or-zip ds vs i d l (omega arith)))
+
+pub progress_zip : (ds : List DimensionInfo) (p : Place) → length ds ≤ length p.values → 1 ≤ p.next_dim → p.next_dim ≤ length ds
+    → list_all (λ (q : DimensionInfo × Stored). stored_ok q.0.distribution q.1.value) (zip ds p.values) ≡ progress_ok ds (length ds) p
+progress_zip ds p h a b = rw (le-leb 1 p.next_dim a, le-leb p.next_dim (length ds) b) (values_zip ds p.values h)
+
+place_front : (a : Bool) (ds : List DimensionInfo) (n : ℕ) (p : Place) → place_ok a (take n ds) n p ≡ place_ok a ds n p
+unfolding place_ok
+place_front a ds n p =
+    ap (λ (b : Bool). not (taken p) || (a && (leb 1 p.next_dim && leb p.next_dim n && b)))
+    (every-same n (λ j. stored_ok (dimension_at (take n ds) j).distribution (stored_at p j)) (λ j. stored_ok (dimension_at ds j).distribution (stored_at p j))
+    (λ i h. ap (λ (d : DimensionInfo). stored_ok d.distribution (stored_at p i)) (get_or-take n ds i _ h)))
+
+places_front : (a : Bool) (ds : List DimensionInfo) (n : ℕ) → n ≤ length ds → (ps : List Place) → length ps ≡ 32
+    → list_all (place_ok a (take n ds) (length (take n ds))) ps ≡ every 32 (λ i. place_ok a ds n (place_at ps i))
+places_front a ds n h ps l =
+    ap (λ (k : ℕ). list_all (place_ok a (take n ds) k) ps) (length-take-le n ds h)
+    ∙ all_every (place_ok a (take n ds) n) ps empty_place 32 l
+    ∙ every-same 32 (λ i. place_ok a (take n ds) n (place_at ps i)) (λ i. place_ok a ds n (place_at ps i)) (λ i l. place_front a ds n (place_at ps i))
+
+regroup : (a b d p e t : Bool) → (a && b && p) ≡ true → d ≡ true → (a && b && d && p && e && t) ≡ (e && t)
+regroup a b d p e t h k = grind arith
+
+pub dimensions_few : (ds : List DimensionInfo) (n : ℕ) → dimensions_ok ds n ≡ true → n ≤ 20
+dimensions_few ds n e = (dimensions-ok ds n (taken_test e)).0
+
+-- where what comes before is good, the places decide
+pub sampler_places : (s : Sampler) → length s.dimensions ≡ 20 → length s.places ≡ 32 → (settings_ok s.settings && not (eqb s.word 0) && (not s.active || leb 1 s.n_dims)) ≡ true
+    → dimensions_ok s.dimensions s.n_dims ≡ true
+    → sampler_ok s ≡ (list_all (place_ok s.active (take s.n_dims s.dimensions) (length (take s.n_dims s.dimensions))) s.places && trials_once s.places)
+unfolding sampler_ok
+sampler_places s n m h k =
+    let few = dimensions_few s.dimensions s.n_dims k in
+    regroup (settings_ok s.settings) (not (eqb s.word 0)) (dimensions_ok s.dimensions s.n_dims) (not s.active || leb 1 s.n_dims) _ (trials_once s.places) h k
+    ∙ sym (ap (λ (b : Bool). b && trials_once s.places) (places_front s.active s.dimensions s.n_dims (omega arith) s.places m))

@@ -1,8 +1,0 @@
--- `sampler_state::places::is_held` meets its contract. Assumes nothing.
-use Rattle.sampler_state.proofs.places.is_held.Goals as goal
-
-pub returns-then-p : goal.returns-then-p
-returns-then-p c = rw c.if-p.true
-
-pub returns-else-p : goal.returns-else-p
-returns-else-p c = rw c.if-p.false
