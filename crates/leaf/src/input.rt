@@ -1,191 +1,104 @@
 // The input: lines of any number, and of any length, by a buffer of fixed size.
 ghost use Rattle.std.specs.Prelude.{◌≤◌, length};
 
-use crate::reply::{Reply, Results};
-use crate::{line, output};
+use crate::line;
+use crate::output::Output;
+use crate::reply::{Failure, Results};
 
-// Between two reads: how many bytes of a line are held, whether this line was longer than the buffer before them, where
-// the output stands, and whether to read on.
+// What answers lines: the words of one, the words of its result, and the output. `long`: what comes next is the end of
+// a line that is longer than the buffer.
 #[derive(Drop)]
-struct Held {
-    have: usize,
+pub struct Answers {
+    words: [u64; 4096],
+    results: Results,
+    output: Output,
     long: bool,
-    at: usize,
-    more: bool,
 }
 
-// What the whole lines of the bytes held came to: how many bytes they were, whether the rest is of a line longer than
-// the buffer, and where the output stands.
-#[derive(Drop)]
-struct Done {
-    used: usize,
-    long: bool,
-    at: usize,
-}
-
-// One line, answered. `long`: these bytes are the end of a line that is longer than the buffer.
-fn answered(
-    rt: HostRuntime,
-    s: &[u8],
-    long: bool,
-    words: &mut [u64],
-    results: &mut Results,
-    out: &mut [u8],
-    at: usize,
-) -> usize
-    requires { (at ≤ length out.old) × (18 ≤ length out.old) }
-    ensures { result ≤ length out.old }
-{
-    if long || s.len() > 65000 {
-        return output::put(rt, out, at, Reply::Unreadable, results);
-    }
-    let reply = line::answer(s, words, results);
-    output::put(rt, out, at, reply, results)
-}
-
-// Every whole line of the first `end` bytes, answered.
-fn lines(
-    rt: HostRuntime,
-    s: &[u8],
-    end: usize,
-    long: bool,
-    words: &mut [u64],
-    results: &mut Results,
-    out: &mut [u8],
-    at: usize,
-) -> Done
-    requires { (end ≤ length s.now) × (at ≤ length out.old) × (18 ≤ length out.old) }
-    ensures { (result.used ≤ end) × (result.at ≤ length out.old) }
-{
-    let mut used = 0;
-    let mut first = long;
-    let mut to = at;
-    while used < end {
-        let Some(len) = s[used..end].iter().position(|b| *b == b'\n') else {
-            return Done {
-                used,
-                long: first,
-                at: to,
-            };
-        };
-        let e = used + len;
-        to = answered(rt, &s[used..e], first, words, results, out, to);
-        first = false;
-        used = e + 1;
-    }
-    Done {
-        used,
-        long: first,
-        at: to,
-    }
-}
-
-// One read, with the lines that it completes. A buffer full of one line is emptied.
-fn turn(
-    rt: HostRuntime,
-    buf: &mut [u8],
-    have: usize,
-    long: bool,
-    words: &mut [u64],
-    results: &mut Results,
-    out: &mut [u8],
-    at: usize,
-) -> Held
-    requires { (have ≤ length buf.old) × (at ≤ length out.old) × (18 ≤ length out.old) }
-    ensures { (result.have ≤ length buf.old) × (result.at ≤ length out.old) }
-{
-    let f = pieces::fill(rt, &mut buf[have..]);
-    let n = f.n;
-    if n == 0 {
-        return Held {
-            have,
-            long,
-            at,
-            more: false,
-        };
-    }
-    let full = have + n;
-    let done = lines(rt, buf, full, long, words, results, out, at);
-    let used = done.used;
-    let left = full - used;
-    if left == buf.len() {
-        return Held {
-            have: 0,
-            long: true,
-            at: done.at,
-            more: true,
-        };
-    }
-    pieces::keep(buf, used, full);
-    Held {
-        have: left,
-        long: done.long,
-        at: done.at,
-        more: true,
-    }
-}
-
-// Reads to the end of the input, and answers every line that ends in a newline.
-// A proved loop has to end, and nothing says that the input does: the turns are counted down from a number that no run
-// uses up.
-fn all(
-    rt: HostRuntime,
-    buf: &mut [u8],
-    words: &mut [u64],
-    results: &mut Results,
-    out: &mut [u8],
-) -> Held
-    requires { 18 ≤ length out.old }
-    ensures { (result.have ≤ length buf.old) × (result.at ≤ length out.old) }
-{
-    let mut h = Held {
-        have: 0,
-        long: false,
-        at: 0,
-        more: true,
-    };
-    let mut turns = u64::MAX;
-    while turns > 0 {
-        h = turn(rt, buf, h.have, h.long, words, results, out, h.at);
-        if !h.more {
-            return h;
+impl Answers {
+    pub(crate) fn new() -> Answers {
+        Answers {
+            words: [0; 4096],
+            results: [0; 8192],
+            output: Output::new(),
+            long: false,
         }
-        turns -= 1;
     }
-    h
+
+    // One line, answered.
+    fn line(&mut self, rt: HostRuntime, s: &[u8]) {
+        let reply = if self.long || s.len() > 65000 {
+            Err(Failure::Unreadable)
+        } else {
+            line::answer(s, &mut self.words, &mut self.results)
+        };
+        self.long = false;
+        self.output.reply(rt, reply, &self.results);
+    }
+
+    // Every whole line of these bytes, answered. How many bytes are left.
+    fn lines(&mut self, rt: HostRuntime, bytes: &[u8]) -> usize
+        ensures { result ≤ length bytes.now }
+    {
+        let mut rest = bytes;
+        while let Some(end) = rest.iter().position(|b| *b == b'\n') {
+            self.line(rt, &rest[..end]);
+            rest = &rest[end + 1..];
+        }
+        rest.len()
+    }
 }
 
-// What stands after the last newline, answered as a line.
-fn last(
-    rt: HostRuntime,
-    buf: &[u8],
-    h: Held,
-    words: &mut [u64],
-    results: &mut Results,
-    out: &mut [u8],
-) -> usize
-    requires { (h.have ≤ length buf.now) × (h.at ≤ length out.old) × (18 ≤ length out.old) }
-    ensures { result ≤ length out.old }
-{
-    let have = h.have;
-    let at = h.at;
-    if have == 0 && !h.long {
-        return at;
-    }
-    answered(rt, &buf[0..have], h.long, words, results, out, at)
+// What is read: the bytes held of a line whose end is not.
+#[derive(Drop)]
+pub struct Input {
+    buffer: [u8; 65536],
+    have: usize,
+    ghost within: { have ≤ 65536 },
 }
 
-// The whole input, answered.
-pub(crate) fn run(
-    rt: HostRuntime,
-    buf: &mut [u8],
-    out: &mut [u8],
-    words: &mut [u64],
-    results: &mut Results,
-)
-    requires { 18 ≤ length out.old }
-{
-    let h = all(rt, buf, words, results, out);
-    let at = last(rt, buf, h, words, results, out);
-    output::flush(rt, out, at);
+impl Input {
+    pub(crate) fn new() -> Input {
+        Input {
+            buffer: [0; 65536],
+            have: 0,
+        }
+    }
+
+    // One read, with the lines that it completes. A buffer full of one line is emptied. Whether there was more.
+    fn turn(&mut self, rt: HostRuntime, answers: &mut Answers) -> bool {
+        let n = pieces::fill(rt, &mut self.buffer[self.have..]).n;
+        if n == 0 {
+            return false;
+        }
+        let full = self.have + n;
+        let left = answers.lines(rt, &self.buffer[..full]);
+        if left == self.buffer.len() {
+            answers.long = true;
+            self.have = 0;
+            return true;
+        }
+        pieces::keep(&mut self.buffer, full - left, full);
+        self.have = left;
+        true
+    }
+
+    // Reads to the end of the input, and answers every line that ends in a newline.
+    // A proved loop has to end, and nothing says that the input does: no run uses up these turns.
+    fn all(&mut self, rt: HostRuntime, answers: &mut Answers) {
+        for _ in 0..u64::MAX {
+            if !self.turn(rt, answers) {
+                return;
+            }
+        }
+    }
+
+    // The whole input, answered; what stands after the last newline is a line too.
+    pub(crate) fn run(&mut self, rt: HostRuntime, answers: &mut Answers) {
+        self.all(rt, answers);
+        if self.have > 0 || answers.long {
+            answers.line(rt, &self.buffer[..self.have]);
+        }
+        answers.output.flush(rt);
+    }
 }

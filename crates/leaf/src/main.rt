@@ -2,7 +2,7 @@
 // it writes one: the call's number, and the words of its result where that is 0. A line that it cannot read is answered
 // by `?`.
 //
-// A new leaf is a function in the module of its crate and a name in its group in `line`.
+// A new leaf is a function in the module of its crate and a name in `line::call`.
 #![tactic(auto)]
 
 mod arithmetic;
@@ -18,9 +18,7 @@ mod reply;
 mod runs;
 
 fn main(rt: HostRuntime) {
-    let mut held = [0u8; 65536];
-    let mut out = [0u8; 65536];
-    let mut words = [0u64; 4096];
-    let mut results = [0u64; 8192];
-    input::run(rt, &mut held, &mut out, &mut words, &mut results);
+    let mut input = input::Input::new();
+    let mut answers = input::Answers::new();
+    input.run(rt, &mut answers);
 }

@@ -1,113 +1,95 @@
 // The leaves of `kernel`, `gp_model` and `search`: counts, then floats as words. A line whose words are not as many as
 // its counts say is none of these.
-ghost use Rattle.std.specs.Prelude.{◌+◌, ◌≤◌, length};
-ghost use Rattle.leaf.specs.Counts.{ResultsFit};
+ghost use Rattle.std.specs.Prelude.{◌≡◌, ◌≤◌, length, IfOk};
 
-use crate::reply;
-use crate::reply::{Reply, Results};
-use gp_model::{Fit, Model};
+use crate::reply::{Failure, Reply, Results, Written, accepted, exactly, outcome, put, put_float};
+use gp_model::Model;
 use prediction::Prediction;
 use search::Searched;
 
-// Where the rows of a fit's line end, and its values; `ok` where the line holds them.
-#[derive(Drop)]
-pub struct Parts {
-    ok: bool,
-    rows: usize,
-    values: usize,
+// The data of a fit: its rows of d columns, one after the other, and their values.
+#[derive(Clone, Copy)]
+struct FitData<'a> {
+    d: usize,
+    noise_var: f64,
+    rows: &'a [u64],
+    values: &'a [u64],
 }
 
 // The words as floats, zeros past them.
-fn floats(args: &[u64]) -> [f64; 4096]
-    requires { length args.now ≤ 4096 }
+fn as_floats(words: &[u64]) -> Result<[f64; 4096], Failure>
+    ensures { IfOk result (λ _. length words.now ≤ 4096) }
 {
-    let mut out = [0.0; 4096];
-    let mut i = 0;
-    while i < args.len() {
-        out[i] = arith::float_of_word(args[i]);
-        i += 1;
+    if words.len() > 4096 {
+        return Err(Failure::Unreadable);
     }
-    out
+    let mut xs = [0.0; 4096];
+    for (x, word) in xs.iter_mut().zip(words) {
+        *x = arith::float_of_word(*word);
+    }
+    Ok(xs)
 }
 
-// Puts the first n floats from `at` on, as words.
-pub(crate) fn put(xs: &[f64], n: usize, results: &mut Results, at: usize)
-    requires { (n ≤ length xs.now) × (at + n ≤ 8192) }
-{
-    let mut i = 0;
-    while i < n {
-        results[at + i] = arith::word_of_float(xs[i]);
-        i += 1;
+// Puts floats as words.
+pub(crate) fn put_floats(words: &mut [u64], xs: &[f64]) {
+    for (word, x) in words.iter_mut().zip(xs) {
+        *word = arith::word_of_float(*x);
     }
 }
 
-pub(crate) fn matern52(args: &[u64], results: &mut Results) -> Reply
-    ensures { ResultsFit result }
-{
-    if args.len() < 2 {
-        return Reply::Unreadable;
+pub(crate) fn matern52(args: &[u64], results: &mut Results) -> Reply {
+    let [d, words @ .., s] = args else {
+        return Err(Failure::Unreadable);
+    };
+    let d = *d as usize;
+    if words.len() % 3 != 0 || words.len() / 3 != d {
+        return Err(Failure::Unreadable);
     }
-    if args.len() > 4096 {
-        return Reply::Unreadable;
-    }
-    let d = args[0] as usize;
-    if d > 4096 {
-        return Reply::Unreadable;
-    }
-    if args.len() != 2 + 3 * d {
-        return Reply::Unreadable;
-    }
-    let xs = floats(args);
-    let a = 1 + d;
-    let b = a + d;
-    let c = b + d;
-    let s = xs[c];
-    let t = &xs[..];
-    reply::outcome(kernel::matern52(&t[1..a], &t[a..b], &t[b..c], s), results)
+    let xs = as_floats(words)?;
+    let s = arith::float_of_word(*s);
+    let k = kernel::matern52(&xs[..d], &xs[d..2 * d], &xs[2 * d..3 * d], s);
+    put_float(outcome(k)?, results)
 }
 
-// The parts of a line of n, d, noise, n rows of d columns and n values, with more words after them or none.
-fn split(args: &[u64]) -> Parts
-    requires { 3 ≤ length args.now }
-    ensures { (3 ≤ result.rows) × (result.rows ≤ result.values) × (result.values ≤ length args.now) }
-{
-    let n = args[0];
-    let d = args[1];
-    if n == 0 {
-        return Parts {
-            ok: true,
-            rows: 3,
-            values: 3,
-        };
-    }
-    if n <= 4096 {
-        if d <= 4096 {
-            let rows = (3 + n * d) as usize;
-            let values = rows + n as usize;
-            if values <= args.len() {
-                return Parts {
-                    ok: true,
-                    rows,
-                    values,
-                };
-            }
-        }
-    }
-    Parts {
-        ok: false,
-        rows: 3,
-        values: 3,
-    }
+// The data of a line of n, d, noise, n rows of d columns and n values, and the words after them.
+fn data(args: &[u64]) -> Option<(FitData<'_>, &[u64])> {
+    let [n, d, noise, words @ ..] = args else {
+        return None;
+    };
+    let (rows, words) = words.split_at_checked(n.checked_mul(*d)? as usize)?;
+    let (values, words) = words.split_at_checked(*n as usize)?;
+    let data = FitData {
+        d: *d as usize,
+        noise_var: arith::float_of_word(*noise),
+        rows,
+        values,
+    };
+    Some((data, words))
 }
 
-// The fit of a line's parts.
-fn fit(args: &[u64], rows: usize, values: usize) -> Fit
-    requires { (3 ≤ rows) × (rows ≤ values) × (values ≤ length args.now) × (length args.now ≤ 4096) }
-{
-    let xs = floats(args);
-    let noise_var = xs[2];
-    let t = &xs[..];
-    gp_model::fit_gp(&t[3..rows], &t[rows..values], args[1] as usize, noise_var)
+// The model fitted to these data.
+fn fit(data: FitData) -> Result<Model, Failure> {
+    let rows = as_floats(data.rows)?;
+    let values = as_floats(data.values)?;
+    let f = gp_model::fit_gp(
+        &rows[..data.rows.len()],
+        &values[..data.values.len()],
+        data.d,
+        data.noise_var,
+    );
+    accepted(f.number)?;
+    Ok(f.model)
+}
+
+// The model fitted to the data of a line, where this many words follow them, and those words.
+fn fitted(args: &[u64], after: u64) -> Result<(Model, &[u64]), Failure> {
+    let Some((data, words)) = data(args) else {
+        return Err(Failure::Unreadable);
+    };
+    if words.len() as u64 != after {
+        return Err(Failure::Unreadable);
+    }
+    Ok((fit(data)?, words))
 }
 
 // How many entries a triangle of n rows has.
@@ -118,133 +100,60 @@ fn entries(n: usize) -> usize
     n * (n + 1) / 2
 }
 
-// An accepted fit: the best value, the lengthscales, the weights and the factor. It has at most 100 rows of 20 columns.
-fn put_model(m: Model, results: &mut Results) -> Reply
-    ensures { ResultsFit result }
-{
-    let n = m.n;
-    let d = m.d;
-    if n > 100 {
-        return Reply::Unreadable;
-    }
-    if d > 20 {
-        return Reply::Unreadable;
+// A model: the best value, the lengthscales, the weights and the factor. It has at most 100 rows of 20 columns.
+fn put_model(m: Model, results: &mut Results) -> Reply {
+    let (n, d) = (m.n, m.d);
+    if n > 100 || d > 20 {
+        return Err(Failure::Unreadable);
     }
     let count = entries(n);
     let alpha = 1 + d;
     let factor = alpha + n;
+    let end = factor + count;
     results[0] = arith::word_of_float(m.f_best);
-    put(&m.lengthscales, d, results, 1);
-    put(&m.alpha, n, results, alpha);
-    put(&m.cholesky, count, results, factor);
-    Reply::Accepted(factor + count)
+    put_floats(&mut results[1..alpha], &m.lengthscales[..d]);
+    put_floats(&mut results[alpha..factor], &m.alpha[..n]);
+    put_floats(&mut results[factor..end], &m.cholesky[..count]);
+    Ok(Written { words: end })
 }
 
-pub(crate) fn fit_gp(args: &[u64], results: &mut Results) -> Reply
-    ensures { ResultsFit result }
-{
-    if args.len() < 3 {
-        return Reply::Unreadable;
-    }
-    if args.len() > 4096 {
-        return Reply::Unreadable;
-    }
-    let p = split(args);
-    if !p.ok {
-        return Reply::Unreadable;
-    }
-    let values = p.values;
-    if values != args.len() {
-        return Reply::Unreadable;
-    }
-    let f = fit(args, p.rows, values);
-    let number = f.number;
-    if number != 0 {
-        return Reply::Refused(number);
-    }
-    let m = f.model;
+pub(crate) fn fit_gp(args: &[u64], results: &mut Results) -> Reply {
+    let (m, _) = fitted(args, 0)?;
     put_model(m, results)
 }
 
-// The mean and the deviation, or the refusal's number.
-fn put_prediction(r: Prediction, results: &mut Results) -> Reply
-    ensures { ResultsFit result }
-{
-    if r.number != 0 {
-        return Reply::Refused(r.number);
-    }
-    results[0] = arith::word_of_float(r.mean);
-    results[1] = arith::word_of_float(r.std);
-    Reply::Accepted(2)
+pub(crate) fn predict(args: &[u64], results: &mut Results) -> Reply {
+    let [_, d, ..] = args else {
+        return Err(Failure::Unreadable);
+    };
+    let (m, point) = fitted(args, *d)?;
+    let xs = as_floats(point)?;
+    let p = prediction::predict(m, &xs[..point.len()]);
+    accepted(p.number)?;
+    put(
+        [arith::word_of_float(p.mean), arith::word_of_float(p.std)],
+        results,
+    )
 }
 
-pub(crate) fn predict(args: &[u64], results: &mut Results) -> Reply
-    ensures { ResultsFit result }
-{
-    if args.len() < 3 {
-        return Reply::Unreadable;
-    }
-    if args.len() > 4096 {
-        return Reply::Unreadable;
-    }
-    let p = split(args);
-    if !p.ok {
-        return Reply::Unreadable;
-    }
-    let values = p.values;
-    if args.len() - values != args[1] as usize {
-        return Reply::Unreadable;
-    }
-    let f = fit(args, p.rows, values);
-    let number = f.number;
-    if number != 0 {
-        return Reply::Refused(number);
-    }
-    let m = f.model;
-    let xs = floats(args);
-    let end = args.len();
-    put_prediction(prediction::predict(m, &xs[values..end]), results)
-}
-
-// The point found, of d coordinates, and the next word, or the refusal's number.
-fn put_point(r: Searched, d: usize, results: &mut Results) -> Reply
-    ensures { ResultsFit result }
-{
-    if r.number != 0 {
-        return Reply::Refused(r.number);
-    }
+// The point found, of d coordinates, and the next word. It has at most 20.
+fn put_point(r: Searched, d: usize, results: &mut Results) -> Reply {
+    accepted(r.number)?;
     if d > 20 {
-        return Reply::Unreadable;
+        return Err(Failure::Unreadable);
     }
-    put(&r.point, d, results, 0);
+    put_floats(&mut results[..d], &r.point[..d]);
     results[d] = r.next;
-    Reply::Accepted(d + 1)
+    Ok(Written { words: d + 1 })
 }
 
-pub(crate) fn optimize_acquisition(args: &[u64], results: &mut Results) -> Reply
-    ensures { ResultsFit result }
-{
-    if args.len() < 3 {
-        return Reply::Unreadable;
-    }
-    if args.len() > 4096 {
-        return Reply::Unreadable;
-    }
-    let p = split(args);
-    if !p.ok {
-        return Reply::Unreadable;
-    }
-    let values = p.values;
-    if args.len() - values != 2 {
-        return Reply::Unreadable;
-    }
-    let f = fit(args, p.rows, values);
-    let number = f.number;
-    if number != 0 {
-        return Reply::Refused(number);
-    }
-    let m = f.model;
+pub(crate) fn optimize_acquisition(args: &[u64], results: &mut Results) -> Reply {
+    let (m, words) = fitted(args, 2)?;
+    let [candidates, word]: [u64; 2] = exactly(words)?;
     let d = m.d;
-    let r = search::optimize_acquisition(m, d, args[values], args[values + 1]);
-    put_point(r, d, results)
+    put_point(
+        search::optimize_acquisition(m, d, candidates, word),
+        d,
+        results,
+    )
 }

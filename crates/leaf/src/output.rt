@@ -1,92 +1,67 @@
-// The output: lines are put into a buffer, which is written where it has no room for one word more.
-ghost use Rattle.std.specs.Prelude.{◌≡◌, ◌+◌, ◌≤◌, ◌<◌, length};
-ghost use Rattle.leaf.specs.Counts.{ResultsFit};
+// The output: lines are put into a buffer, which is written where it has no room for more.
+ghost use Rattle.std.specs.Prelude.{◌≡◌, ◌≤◌, length};
 
-use crate::reply::{Reply, Results};
+use crate::reply::{Failure, Reply, Results};
 
-// Writes what stands before `at`. A failure is not told.
-pub(crate) fn flush(rt: HostRuntime, out: &[u8], at: usize)
-    requires { at ≤ length out.now }
-{
-    let _ = rt.write_all(&out[0..at]);
+// The bytes that are not yet written.
+#[derive(Drop)]
+pub struct Output {
+    buffer: [u8; 65536],
+    len: usize,
+    ghost within: { len ≤ 65536 },
 }
 
-// Where to go on: room for a word, the space before it and the newline after it.
-fn room(rt: HostRuntime, out: &[u8], at: usize) -> usize
-    requires { (at ≤ length out.now) × (18 ≤ length out.now) }
-    ensures { result + 18 ≤ length out.now }
-{
-    if out.len() - at < 18 {
-        flush(rt, out, at);
-        return 0;
-    }
-    at
-}
-
-// One byte.
-fn byte(out: &mut [u8], at: usize, b: u8) -> usize
-    requires { at < length out.old }
-    ensures { result ≡ at + 1 }
-{
-    out[at] = b;
-    at + 1
-}
-
-// The sixteen digits of w.
-fn word(out: &mut [u8], at: usize, w: u64) -> usize
-    requires { at + 16 ≤ length out.old }
-    ensures { result ≡ at + 16 }
-{
-    let digits = word_text::print(w);
-    let mut i = 0;
-    while i < 16 {
-        out[at + i] = digits[i];
-        i += 1;
-    }
-    at + 16
-}
-
-// The first n words of results, a space before each.
-fn words(rt: HostRuntime, out: &mut [u8], at: usize, results: &Results, n: usize) -> usize
-    requires { (at < length out.old) × (18 ≤ length out.old) × (n ≤ 8192) }
-    ensures { result < length out.old }
-{
-    let mut to = at;
-    let mut i = 0;
-    while i < n {
-        let from = room(rt, out, to);
-        let start = byte(out, from, b' ');
-        to = word(out, start, results[i]);
-        i += 1;
-    }
-    to
-}
-
-// The line of a reply.
-pub(crate) fn put(
-    rt: HostRuntime,
-    out: &mut [u8],
-    at: usize,
-    reply: Reply,
-    results: &Results,
-) -> usize
-    requires { (at ≤ length out.old) × (18 ≤ length out.old) × ResultsFit reply }
-    ensures { result ≤ length out.old }
-{
-    let from = room(rt, out, at);
-    match reply {
-        Reply::Accepted(n) => {
-            let start = word(out, from, 0);
-            let end = words(rt, out, start, results, n);
-            byte(out, end, b'\n')
+impl Output {
+    pub(crate) fn new() -> Output {
+        Output {
+            buffer: [0; 65536],
+            len: 0,
         }
-        Reply::Refused(number) => {
-            let end = word(out, from, number);
-            byte(out, end, b'\n')
+    }
+
+    // Writes what the buffer holds. A failure is not told.
+    pub(crate) fn flush(&mut self, rt: HostRuntime)
+        ensures { self.new.len ≡ 0 }
+    {
+        let _ = rt.write_all(&self.buffer[..self.len]);
+        self.len = 0;
+    }
+
+    // Puts these bytes.
+    fn put(&mut self, rt: HostRuntime, bytes: &[u8])
+        requires { length bytes.now ≤ 65536 }
+    {
+        if bytes.len() > self.buffer.len() - self.len {
+            self.flush(rt);
         }
-        Reply::Unreadable => {
-            let end = byte(out, from, b'?');
-            byte(out, end, b'\n')
+        let end = self.len + bytes.len();
+        self.buffer[self.len..end].copy_from_slice(bytes);
+        self.len = end;
+    }
+
+    // Puts the sixteen digits of w.
+    fn word(&mut self, rt: HostRuntime, w: u64) {
+        self.put(rt, &word_text::print(w));
+    }
+
+    // Puts the words of a result, a space before each.
+    fn words(&mut self, rt: HostRuntime, words: &[u64]) {
+        for w in words {
+            self.put(rt, b" ");
+            self.word(rt, *w);
         }
+    }
+
+    // Puts the line of a reply.
+    pub(crate) fn reply(&mut self, rt: HostRuntime, reply: Reply, results: &Results) {
+        match reply {
+            Ok(written) => {
+                self.word(rt, 0);
+                self.words(rt, &results[..written.words]);
+            }
+            Err(Failure::Refused(number)) => self.word(rt, number),
+            Err(Failure::Unreadable) => self.put(rt, b"?"),
+        }
+        self.put(rt, b"\n");
     }
 }

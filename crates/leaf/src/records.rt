@@ -1,40 +1,37 @@
 // The leaves of `history`: the number of slots, in `mapping` and `training` the number of dimensions and six words for
 // each, then a history.
 // A line with fewer words than its dimensions have is none of these; over 20 dimensions or a malformed one are 11.
-ghost use Rattle.std.specs.Prelude.{◌*◌, ◌≤◌, length};
-ghost use Rattle.leaf.specs.Counts.{ResultsFit};
+ghost use Rattle.std.specs.Prelude.{◌≤◌, length};
 
-use crate::reply::{Reply, Results};
-use crate::{codings, model, reply};
+use crate::codings;
+use crate::model::put_floats;
+use crate::reply::{Failure, Reply, Results, Written, accepted, put};
 use dimensions::DimensionInfo;
-use distribution::{CategoricalDistribution, Distribution, Read};
+use distribution::{CategoricalDistribution, Distribution};
 use history::Training;
 use param_mapping::Mapped;
 
-// The dimensions of a line, or the number of their refusal.
-#[derive(Drop)]
-pub struct Dimensions {
-    number: u64,
+// What `mapping` and `training` read: the number of slots, k dimensions and a history.
+#[derive(Clone, Copy)]
+struct Query<'a> {
+    slots: usize,
     dims: [DimensionInfo; 20],
+    k: usize,
+    history: &'a [u64],
+    ghost few: { k ≤ 20 },
 }
 
 // The number of rows. A history that is not refused has at most 20 slots.
-pub(crate) fn history(args: &[u64], results: &mut Results) -> Reply
-    ensures { ResultsFit result }
-{
-    if args.len() < 1 {
-        return Reply::Unreadable;
-    }
-    let slots = args[0] as usize;
-    let number = history_rows::refusal(slots, &args[1..]);
-    if number != 0 {
-        return Reply::Refused(number);
-    }
+pub(crate) fn history(args: &[u64], results: &mut Results) -> Reply {
+    let [slots, h @ ..] = args else {
+        return Err(Failure::Unreadable);
+    };
+    let slots = *slots as usize;
+    accepted(history_rows::refusal(slots, h))?;
     if slots > 20 {
-        return Reply::Unreadable;
+        return Err(Failure::Unreadable);
     }
-    let rows = (args.len() - 1) / (3 + 8 * slots);
-    reply::one(rows as u64, results)
+    put([(h.len() / (3 + 8 * slots)) as u64], results)
 }
 
 // What stands past the dimensions: a choice of one.
@@ -42,63 +39,51 @@ fn no_dimension() -> DimensionInfo {
     dimensions::dimension(Distribution::Categorical(CategoricalDistribution { n_choices: 1 }))
 }
 
-// The first k dimensions of these words; a malformed one is 11.
-fn read_dimensions(words: &[u64], k: usize) -> Dimensions
-    requires { (k ≤ 20) × (6 * k ≤ length words.now) }
-{
+// The dimensions of these words, six for each, up to 20; a malformed one is 11.
+fn read_dimensions(words: &[u64]) -> Result<[DimensionInfo; 20], Failure> {
     let mut dims = [no_dimension(); 20];
-    let mut j = 0;
-    while j < k {
-        let Read::WellFormed(d) = codings::read(words, 6 * j) else {
-            return Dimensions { number: 11, dims };
-        };
-        dims[j] = dimensions::dimension(d);
-        j += 1;
+    for (dim, six) in dims.iter_mut().zip(words.chunks_exact(6)) {
+        *dim = dimensions::dimension(codings::distribution(six)?);
     }
-    Dimensions { number: 0, dims }
+    Ok(dims)
 }
 
-// Puts two words for each of the first k: 1 and the id, or 0 and 0 for none.
-fn put_ids(ids: [Mapped; 20], k: usize, results: &mut Results)
-    requires { k ≤ 20 }
-{
-    let mut j = 0;
-    while j < k {
-        let m = ids[j];
-        results[2 * j] = m.found as u64;
-        results[2 * j + 1] = m.id;
-        j += 1;
-    }
-}
-
-pub(crate) fn mapping(args: &[u64], results: &mut Results) -> Reply
-    ensures { ResultsFit result }
-{
-    if args.len() < 2 {
-        return Reply::Unreadable;
-    }
-    let k = args[1] as usize;
-    if k > (args.len() - 2) / 6 {
-        return Reply::Unreadable;
+fn read_query(args: &[u64]) -> Result<Query<'_>, Failure> {
+    let [slots, k, words @ ..] = args else {
+        return Err(Failure::Unreadable);
+    };
+    let k = *k as usize;
+    if k > words.len() / 6 {
+        return Err(Failure::Unreadable);
     }
     if k > 20 {
-        return Reply::Refused(11);
+        return Err(Failure::Refused(11));
     }
-    let start = 2 + 6 * k;
-    let ds = read_dimensions(&args[2..start], k);
-    let number = ds.number;
-    if number != 0 {
-        return Reply::Refused(number);
+    let (dims, history) = words.split_at(6 * k);
+    Ok(Query {
+        slots: *slots as usize,
+        dims: read_dimensions(dims)?,
+        k,
+        history,
+    })
+}
+
+// Puts two words for each: 1 and the id, or 0 and 0 for none.
+fn put_ids(ids: &[Mapped], results: &mut Results)
+    requires { length ids.now ≤ 20 }
+{
+    for (j, m) in ids.iter().enumerate() {
+        results[2 * j] = m.found as u64;
+        results[2 * j + 1] = m.id;
     }
-    let dims = ds.dims;
-    let m = param_mapping::establish_param_mapping(args[0] as usize, dims, k, &args[start..]);
-    let refused = m.number;
-    if refused != 0 {
-        return Reply::Refused(refused);
-    }
-    let ids = m.ids;
-    put_ids(ids, k, results);
-    Reply::Accepted(2 * k)
+}
+
+pub(crate) fn mapping(args: &[u64], results: &mut Results) -> Reply {
+    let q = read_query(args)?;
+    let m = param_mapping::establish_param_mapping(q.slots, q.dims, q.k, q.history);
+    accepted(m.number)?;
+    put_ids(&m.ids[..q.k], results);
+    Ok(Written { words: 2 * q.k })
 }
 
 // How many coordinates n rows of d columns have.
@@ -110,50 +95,26 @@ fn coordinates(n: usize, d: usize) -> usize
 }
 
 // The counts, the coordinates row after row and the values. There are at most 100 rows of 20 columns.
-fn put_training(t: Training, results: &mut Results) -> Reply
-    ensures { ResultsFit result }
-{
-    let n = t.n;
-    let d = t.d;
-    if n > 100 {
-        return Reply::Unreadable;
-    }
-    if d > 20 {
-        return Reply::Unreadable;
+fn put_training(t: Training, results: &mut Results) -> Reply {
+    accepted(t.number)?;
+    let (n, d) = (t.n, t.d);
+    if n > 100 || d > 20 {
+        return Err(Failure::Unreadable);
     }
     let count = coordinates(n, d);
     let values = 2 + count;
+    let end = values + n;
     results[0] = n as u64;
     results[1] = d as u64;
-    model::put(&t.x, count, results, 2);
-    model::put(&t.y, n, results, values);
-    Reply::Accepted(values + n)
+    put_floats(&mut results[2..values], &t.x[..count]);
+    put_floats(&mut results[values..end], &t.y[..n]);
+    Ok(Written { words: end })
 }
 
-pub(crate) fn training(args: &[u64], results: &mut Results) -> Reply
-    ensures { ResultsFit result }
-{
-    if args.len() < 2 {
-        return Reply::Unreadable;
-    }
-    let k = args[1] as usize;
-    if k > (args.len() - 2) / 6 {
-        return Reply::Unreadable;
-    }
-    if k > 20 {
-        return Reply::Refused(11);
-    }
-    let start = 2 + 6 * k;
-    let ds = read_dimensions(&args[2..start], k);
-    let number = ds.number;
-    if number != 0 {
-        return Reply::Refused(number);
-    }
-    let dims = ds.dims;
-    let t = history::build_training_data(args[0] as usize, dims, k, &args[start..]);
-    let refused = t.number;
-    if refused != 0 {
-        return Reply::Refused(refused);
-    }
-    put_training(t, results)
+pub(crate) fn training(args: &[u64], results: &mut Results) -> Reply {
+    let q = read_query(args)?;
+    put_training(
+        history::build_training_data(q.slots, q.dims, q.k, q.history),
+        results,
+    )
 }

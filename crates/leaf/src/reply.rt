@@ -1,53 +1,64 @@
 // What a call answers.
-ghost use Rattle.leaf.specs.Counts.{ResultsFit};
+ghost use Rattle.std.specs.Prelude.{◌≤◌};
+
+use arith::Outcome;
 
 // The array to whose start a call puts the words of its result.
 pub type Results = [u64; 8192];
 
-// Accepted: how many words of the array lent to the call are its result. Refused: the refusal's number.
-// Unreadable: the line is none of this leaf.
-#[derive(Drop)]
-pub enum Reply {
-    Accepted(usize),
+// How many words of that array are the result.
+#[derive(Clone, Copy)]
+pub struct Written {
+    pub words: usize,
+    ghost fits: { words ≤ 8192 },
+}
+
+// Why a call has no result: a refusal's number, or the line is none of its leaf.
+#[derive(Clone, Copy)]
+pub enum Failure {
     Refused(u64),
     Unreadable,
 }
 
-// One word.
-pub(crate) fn one(word: u64, results: &mut Results) -> Reply
-    ensures { ResultsFit result }
+pub type Reply = Result<Written, Failure>;
+
+// A result of these words.
+pub(crate) fn put<const N: usize>(words: [u64; N], results: &mut Results) -> Reply
+    requires { N ≤ 8192 }
 {
-    results[0] = word;
-    Reply::Accepted(1)
+    results[..N].copy_from_slice(&words);
+    Ok(Written { words: N })
 }
 
-// One float.
-pub(crate) fn float(x: f64, results: &mut Results) -> Reply
-    ensures { ResultsFit result }
-{
-    one(arith::word_of_float(x), results)
+// The words of a line, where there are N of them.
+pub(crate) fn exactly<const N: usize>(args: &[u64]) -> Result<[u64; N], Failure> {
+    <[u64; N]>::try_from(args).map_err(|_| Failure::Unreadable)
 }
 
-// The answer of a function with a domain.
-pub(crate) fn outcome(o: arith::Outcome, results: &mut Results) -> Reply
-    ensures { ResultsFit result }
-{
-    let number = arith::number(o);
-    if number != 0 {
-        return Reply::Refused(number);
+// The floats of a line, where there are N of them.
+pub(crate) fn floats<const N: usize>(args: &[u64]) -> Result<[f64; N], Failure> {
+    let words: [u64; N] = exactly(args)?;
+    Ok(std::array::from_fn(|i| arith::float_of_word(words[i])))
+}
+
+// A result of one float.
+pub(crate) fn put_float(x: f64, results: &mut Results) -> Reply {
+    put([arith::word_of_float(x)], results)
+}
+
+// The value of a function with a domain.
+pub(crate) fn outcome(o: Outcome) -> Result<f64, Failure> {
+    match o {
+        Outcome::Value(x) => Ok(x),
+        Outcome::Refused(number) => Err(Failure::Refused(number)),
     }
-    one(arith::word(o), results)
 }
 
-// The answer of a draw: the value's word, how many words were drawn and the next word.
-pub(crate) fn draw(number: u64, value: u64, drawn: u64, next: u64, results: &mut Results) -> Reply
-    ensures { ResultsFit result }
-{
-    if number != 0 {
-        return Reply::Refused(number);
+// Refuses the call where the number of an answer is not 0.
+pub(crate) fn accepted(number: u64) -> Result<(), Failure> {
+    if number == 0 {
+        Ok(())
+    } else {
+        Err(Failure::Refused(number))
     }
-    results[0] = value;
-    results[1] = drawn;
-    results[2] = next;
-    Reply::Accepted(3)
 }

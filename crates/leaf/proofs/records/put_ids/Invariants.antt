@@ -1,9 +1,0 @@
--- `leaf::records::put_ids` is safe: j stays within the count.
-use Prim.Native.Nat.{◌≤◌, ◌-◌}
-use Rattle.leaf.proofs.records.put_ids.Given as goal
-
-abbrev pub invariant-loop-j : goal.invariant-loop-j
-invariant-loop-j l = l.j ≤ l.k
-
-abbrev pub decreases-loop-j : goal.decreases-loop-j
-decreases-loop-j l = l.k - l.j
