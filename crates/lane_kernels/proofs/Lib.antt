@@ -1,4 +1,3 @@
 mod Cases
 pub mod DecayRow
 pub mod KernelRow
-mod NearRoot

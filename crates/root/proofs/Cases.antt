@@ -1,14 +1,12 @@
 -- The definitions at single points, computed; the words are what IEEE 754's square root gives. Assumes nothing.
 use mathlib.Core.Path.{◌≡◌, refl, subst}
 use mathlib.Core.Bool.{true, false}
-use Prim.Native.Nat.{◌^◌}
-use lib.Dec.{lit<, lit≤}
+use lib.Dec.{lit<}
 use lib.IntN.{pos, negsuc}
 use lib.Ieee.{nan, inf, binary64, fits, of_bits, of_int, round}
-use Rattle.root.specs.Sqrt.{better, isqrt, halves, root_of, sqrt_of}
-use Rattle.root.specs.RootParts.{Near, Pattern}
+use Rattle.root.specs.Sqrt.{better, isqrt, halves, sqrt_of}
 use Rattle.root.specs.Rooted.{Rooted}
-use Rattle.root.proofs.SqrtLaws.{sqrt-is-rounded}
+use Rattle.root.proofs.SqrtLaws.{is_rounded}
 
 -- the whole root of 15 and of 16, and the digit that says that something is left
 abbrev Whole : Type 0
@@ -38,16 +36,5 @@ roots : Roots
 unfolding sqrt_of of_bits of_int round
 roots = (refl, refl, refl, refl, refl, refl)
 
--- the root of 20 is nearest to 4, that of 21 to 5
-near-20 : Near 20 4
-near-20 = record { some = lit< tt; fits = lit≤ tt; below = lit< tt; reached = lit≤ tt }
-
-near-21 : Near 21 5
-near-21 = record { some = lit< tt; fits = lit≤ tt; below = lit< tt; reached = lit≤ tt }
-
--- 2 is 2^52 * 2^(1024 - 1075)
-pattern-2 : Pattern (2 ^ 52) 1024 0x3ff6a09e667f3bcd
-pattern-2 = record { value = unfold root_of of_bits round in refl; finite = lit< tt }
-
 rooted-2 : Rooted 1 (pos 1) (of_bits binary64 0x3ff6a09e667f3bcd)
-rooted-2 = subst (Rooted 1 (pos 1)) roots.0 (unfold of_bits in sqrt-is-rounded.positive 1 (pos 1) (lit< tt) (unfold fits in tt))
+rooted-2 = subst (Rooted 1 (pos 1)) roots.0 (unfold of_bits in is_rounded.positive 1 (pos 1) (lit< tt) (unfold fits in tt))

@@ -1,7 +1,5 @@
 mod Cases
-mod RootRound
 pub mod RootSign
-pub mod RootTop
-pub mod RootValue
-pub mod RootWhole
-pub mod SqrtLaws
+mod RootWhole
+mod SqrtLaws
+mod StdRoot

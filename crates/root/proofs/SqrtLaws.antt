@@ -2,7 +2,7 @@
 use mathlib.Core.Path.{◌≡◌, refl, sym, ap, ◌∙◌, subst}
 use mathlib.Core.Logic.{◌↔◌, ◌⊎◌, inl, inr}
 use Prim.Native.Nat.{ℕ, zero, suc, ◌+◌, ◌-◌, ◌*◌, ◌/◌, ◌^◌, ◌≤◌, ◌<◌}
-use native.Mathlib.Nat.{add-zero, zero-lt-suc, le_refl, le_trans, le_of_eq, le_of_lt, le_antisymm, lt_irrefl, lt_of_le_of_lt, lt_of_lt_of_le, lt_of_not-le, not-le_of_lt, mul-le-mul, mul-le-mul_right, mul-lt-mul_of_pos_right, le_of_mul-le-mul_right, lt_of_mul-lt-mul_right, mul-one, mul_comm, mul_assoc, mul_left_comm, mul_right_comm, mul-pos, add-mul, one-mul, div-mul-le_self, lt-div-mul-add, le-div_iff_mul-le, div-lt_iff_lt-mul}
+use native.Mathlib.Nat.{add-zero, zero-lt-suc, le_refl, le_trans, le_of_eq, le_of_lt, le_antisymm, lt_irrefl, lt_of_le_of_lt, lt_of_lt_of_le, lt_of_not-le, not-le_of_lt, mul-le-mul, mul-le-mul_right, mul-lt-mul_of_pos_right, le_of_mul-le-mul_right, lt_of_mul-lt-mul_right, mul-one, mul_comm, mul_assoc, mul_left_comm, mul_right_comm, mul-pos, add-mul, one-mul, mul-div_cancel, div-mul-le_self, lt-div-mul-add, le-div_iff_mul-le, div-lt_iff_lt-mul}
 use native.Mathlib.Omega.{arith}
 use mathlib.Core.Bool.{true, false}
 use lib.Dec.{T, leb, ltb, leb→le, nleb→lt, ltb→lt, nltb→le}
@@ -24,11 +24,10 @@ use Rattle.arith.proofs.HalfUnit.{closest-error}
 use Rattle.arith.proofs.Held as held
 use Rattle.arith.proofs.Held.{below_end}
 use Rattle.arith.proofs.Nearest.{grid-form}
-use Rattle.root.proofs.RootValue.{sqrt-value}
 use Rattle.root.proofs.RootWhole.{Root, isqrt-root, sq-lt}
 use Rattle.arith.proofs.Tests.{either}
 
-abbrev rounded : ℕ → ℕ → Float
+abbrev pub rounded : ℕ → ℕ → Float
 rounded p q = round binary64 false p q
 
 -- ---- the whole number nearest to a / u, which lies strictly between g / 2 and (g + 1) / 2
@@ -92,7 +91,7 @@ module _ (s : ℕ) (big : 2 ^ 53 ≤ s) where
       all : (z : ℕ) → 53 < z → z ≡ 54 + (z - 54)
       all z h = omega arith
 
-  alike : (p q : ℕ) → 0 < q → s * q < p * 2 ^ 600 → p * 2 ^ 600 < (s + 1) * q → rounded p q ≡ rounded (2 * s + 1) (2 ^ 601)
+  pub alike : (p q : ℕ) → 0 < q → s * q < p * 2 ^ 600 → p * 2 ^ 600 < (s + 1) * q → rounded p q ≡ rounded (2 * s + 1) (2 ^ 601)
   alike p q Q lo hi = strictly p q Q lo hi ∙ sym (strictly (2 * s + 1) (2 ^ 601) (pow_pos 601) (middle (2 ^ 600) (pow_pos 600)).0 (middle (2 ^ 600) (pow_pos 600)).1)
     where
       middle : (c : ℕ) → 0 < c → (s * (2 * c) < (2 * s + 1) * c) × ((2 * s + 1) * c < (s + 1) * (2 * c))
@@ -163,14 +162,14 @@ abbrev Above : ℕ → Float → Type 0
 Above n r = (p q : ℕ) → 0 < q → n * (q * q) ≤ p * 2 ^ 600 * (p * 2 ^ 600) → T (le r (rounded p q))
 
 -- n is s * s, or strictly between s * s and (s + 1) * (s + 1)
-halves-is : (n s : ℕ) → ((n ≤ s * s) × (halves n s ≡ 2 * s)) ⊎ ((s * s < n) × (halves n s ≡ 2 * s + 1))
+pub halves-is : (n s : ℕ) → ((n ≤ s * s) × (halves n s ≡ 2 * s)) ⊎ ((s * s < n) × (halves n s ≡ 2 * s + 1))
 halves-is n s =
     elim (either (ltb (s * s) n)) [
       | inl t ↦ inr (ltb→lt (s * s) n t, rw (is_true (ltb (s * s) n) t))
       | inr t ↦ inl (nltb→le (s * s) n t, rw (is_false (ltb (s * s) n) t) (add-zero (2 * s)))
     ]
 
-abbrev root : ℕ → ℕ → Float
+abbrev pub root : ℕ → ℕ → Float
 root n s = rounded (halves n s) (2 ^ 601)
 
 module _ (n s : ℕ) (r : Root n s) (big : 2 ^ 53 ≤ s) where
@@ -273,16 +272,16 @@ module _ (m : ℕ) (e : ℤ) (t : T (fits binary64 (fin false (suc m) e))) where
   abbrev j : ℕ
   j = (grid-form binary64 false (suc m) e t).1.0
 
-  abbrev n : ℕ
+  abbrev pub n : ℕ
   n = suc m * 2 ^ (j + 126)
 
-  abbrev s : ℕ
+  abbrev pub s : ℕ
   s = isqrt 1112 n
 
   units_of : suc m * up e * 2 ^ 1074 ≡ suc m * 2 ^ j * down e
   units_of = (grid-form binary64 false (suc m) e t).1.1
 
-  scaled : n * down e ≡ suc m * up e * (2 ^ 600 * 2 ^ 600)
+  pub scaled : n * down e ≡ suc m * up e * (2 ^ 600 * 2 ^ 600)
   scaled =
       ap (λ (y : ℕ). y * down e) (ap (λ (y : ℕ). suc m * y) (pow-add 2 j 126) ∙ sym (mul_assoc (suc m) (2 ^ j) (2 ^ 126)))
       ∙ mul_right_comm (suc m * 2 ^ j) (2 ^ 126) (down e)
@@ -297,17 +296,18 @@ module _ (m : ℕ) (e : ℤ) (t : T (fits binary64 (fin false (suc m) e))) where
       lt_of_mul-lt-mul_right (down e)
       (lt_of_le_of_lt (le_of_eq scaled) (lt_of_lt_of_le (mul-lt-mul_of_pos_right (below_end binary64 false (suc m) e t) (pow_pos 1200)) (le_of_eq (mul_right_comm (2 ^ 1024) (down e) (2 ^ 1200)))))
 
-  is-root : Root n s
+  pub is-root : Root n s
   is-root = isqrt-root 1112 n most
 
-  big : 2 ^ 53 ≤ s
+  pub big : 2 ^ 53 ≤ s
   big = go s (sq-lt (2 ^ 63) (s + 1) (lt_of_le_of_lt least is-root.1))
     where
       go : (x : ℕ) → 2 ^ 63 < x + 1 → 2 ^ 53 ≤ x
       go x h = omega arith
 
-  value : sqrt_of (fin false (suc m) e) ≡ root n s
-  value = sqrt-value (fin false (suc m) e) (suc m) j (zero-lt-suc m) (refl, units_of) ∙ (unfold root_of in refl)
+  pub value : sqrt_of (fin false (suc m) e) ≡ root n s
+  unfolding sqrt_of root_of
+  value = ap root_of (ap (λ (y : ℕ). y / down e) (sym scaled) ∙ mul-div_cancel n (down_pos e))
 
   parts : T (fits binary64 (root n s)) × Below n (root n s) × Above n (root n s)
   parts = (round-fits binary64 false (halves n s) (2 ^ 601), below n s is-root big, above n s is-root big)
@@ -335,6 +335,6 @@ unfolding sqrt_of
 at-negative zero e h = absurd (lt_irrefl 0 h)
 at-negative (suc m) e h = refl
 
-pub sqrt-is-rounded : SqrtIsRounded
+pub is_rounded : SqrtIsRounded
 unfolding sqrt_of
-sqrt-is-rounded = record { positive = at-positive; unique = unique; zero = λ s e. refl; infinity = refl; negative = at-negative; minus-infinity = refl; not-a-number = refl }
+is_rounded = record { positive = at-positive; unique = unique; zero = λ s e. refl; infinity = refl; negative = at-negative; minus-infinity = refl; not-a-number = refl }

@@ -1,3 +1,2 @@
-pub mod RootParts
 pub mod Rooted
 pub mod Sqrt

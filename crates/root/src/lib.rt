@@ -1,142 +1,20 @@
-// The correctly rounded square root: a guess in floats, settled in whole numbers.
+// The correctly rounded square root.
 #![tactic(auto)]
 
-ghost use Rattle.std.specs.Prelude.{◌≡◌, ◌+◌, ◌-◌, ◌*◌, ◌/◌, ◌%◌, ◌^◌, ◌≤◌, ◌<◌, leb};
+ghost use Rattle.std.specs.Prelude.{◌≡◌};
 ghost use Rattle.root.specs.Sqrt.{sqrt_of};
-ghost use Rattle.root.specs.RootParts.{Near, Pattern};
 ghost use Rattle.root.specs.Rooted.{SqrtIsRounded};
 
-// Whether nh * 2^54 + nl is at most q * (q + 1), which has up to 107 bits. q is cut at bit 27.
-fn reaches(q: u64, nh: u64, nl: u64) -> bool
-    requires { (q ≤ 2 ^ 53) × (nl < 2 ^ 54) }
-    ensures { result ≡ leb (nh * 2 ^ 54 + nl) (q * (q + 1)) }
-{
-    let a = q / 0x800_0000;
-    let b = q % 0x800_0000;
-    let t = 2 * (a * b);
-    let lo = t % 0x800_0000 * 0x800_0000 + b * b + q;
-    let hi = a * a + t / 0x800_0000 + lo / 0x40_0000_0000_0000;
-    if nh < hi {
-        return true;
-    }
-    if hi < nh {
-        return false;
-    }
-    nl <= lo % 0x40_0000_0000_0000
-}
-
-// 2^52 times z by its pattern where z is from 1 to 2, else some number of that size.
-fn clamped(z: f64) -> u64
-    ensures { (0 < result) × (result ≤ 2 ^ 53) }
-{
-    if z > 0.0 {
-        let b = f64::to_bits(z);
-        if b > 0x3fe0_0000_0000_0000 {
-            let q = b - 0x3fe0_0000_0000_0000;
-            if q <= 0x20_0000_0000_0000 {
-                return q;
-            }
-        }
-    }
-    0x10_0000_0000_0000
-}
-
-// A number near 2^52 times the root of the float whose pattern is g, from 1 to 4. What it is decides
-// only how long `nearest` takes.
-fn guess(g: u64) -> u64
-    requires { (0x3ff0000000000000 ≤ g) × (g < 0x4010000000000000) }
-    ensures { (0 < result) × (result ≤ 2 ^ 53) }
-{
-    let x = f64::from_bits(g);
-    let y0 = f64::from_bits(0x5fe6eb50c7b537a9 - g / 2);
-    let k = 0.5 * x;
-    let y1 = y0 * (1.5 - k * y0 * y0);
-    let y2 = y1 * (1.5 - k * y1 * y1);
-    let y = y2 * (1.5 - k * y2 * y2);
-    let s = x * y;
-    clamped(s + 0.5 * y * (x - s * s))
-}
-
-// The least number from q up that reaches.
-fn raised(start: u64, nh: u64, nl: u64) -> u64
-    requires { (0 < start) × (start ≤ 2 ^ 53) × (nl < 2 ^ 54) × (nh < 2 ^ 52) }
-    ensures { (0 < result) × (result ≤ 2 ^ 53) × (nh * 2 ^ 54 + nl ≤ result * (result + 1)) }
-{
-    let mut q = start;
-    while !reaches(q, nh, nl) {
-        q += 1;
-    }
-    q
-}
-
-fn nearest(g: u64, nh: u64, nl: u64) -> u64
-    requires { (0x3ff0000000000000 ≤ g) × (g < 0x4010000000000000) × (nl < 2 ^ 54) × (0 < nh) × (nh < 2 ^ 52) }
-    ensures { Near (nh * 2 ^ 54 + nl) result }
-{
-    let mut q = raised(guess(g), nh, nl);
-    while reaches(q - 1, nh, nl) {
-        q -= 1;
-    }
-    q
-}
-
-// How far d is from having 53 binary digits.
-fn shift(d: u64) -> u64
-    requires { (0 < d) × (d < 2 ^ 53) }
-    ensures { (result ≤ 52) × (2 ^ 52 ≤ d * 2 ^ result) × (d * 2 ^ result < 2 ^ 53) }
-{
-    (u64::leading_zeros(d) - 11) as u64
-}
-
-// The pattern of the root of d * 2^(e - 1075).
-fn pattern(d: u64, e: u64) -> u64
-    requires { (0 < d) × (d < 2 ^ 53) × (0 < e) × (e < 2047) }
-    ensures { Pattern d e result }
-{
-    let z = shift(d);
-    let m = d << z;
-    let f = 1021 + e - z;
-    if f % 2 == 0 {
-        let q = nearest(
-            m + 0x3fe0_0000_0000_0000,
-            m / 4,
-            m % 4 * 0x10_0000_0000_0000,
-        );
-        f / 2 * 0x10_0000_0000_0000 + q
-    } else {
-        let q = nearest(
-            m + 0x3ff0_0000_0000_0000,
-            m / 2,
-            m % 2 * 0x20_0000_0000_0000,
-        );
-        f / 2 * 0x10_0000_0000_0000 + q
-    }
-}
-
 // The square root of x, correctly rounded.
+#[tactic(auto, using(crate::proofs::StdRoot::std_root))]
 pub fn sqrt(x: f64) -> f64
     ensures { result ≡ sqrt_of x }
 {
-    if x > 0.0 {
-        let b = f64::to_bits(x);
-        if b >= 0x7ff0_0000_0000_0000 {
-            return x;
-        }
-        let field = b / 0x10_0000_0000_0000;
-        let digits = b % 0x10_0000_0000_0000;
-        if field == 0 {
-            f64::from_bits(pattern(digits, 1))
-        } else {
-            f64::from_bits(pattern(0x10_0000_0000_0000 + digits, field))
-        }
-    } else if x == 0.0 {
-        x
-    } else {
-        0.0 / 0.0
-    }
+    x.sqrt()
 }
 
 // What `sqrt` computes is the correctly rounded root, at every float: a theorem on its definition, as a contract.
+#[tactic(auto, using(crate::proofs::SqrtLaws::is_rounded))]
 pub fn sqrt_is_rounded()
     ensures { SqrtIsRounded }
 {}

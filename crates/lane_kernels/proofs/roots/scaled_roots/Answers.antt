@@ -1,24 +1,19 @@
--- `lane_kernels::roots::scaled_roots` meets its contract: before each turn the array holds the lanes passed. Assumes nothing.
-use mathlib.Core.Path.{refl}
-use native.Mathlib.Numerals.{add-one}
-use native.Mathlib.Omega.{arith}
-use lib.Ieee.{of_bits}
-use Rattle.arith.specs.Lists.{grown}
-use Rattle.arith.proofs.Lists.{grown-set}
+-- `lane_kernels::roots::scaled_roots` meets its contract: each element is what the closure answers. Assumes nothing.
+use Rattle.std.proofs.Common.{Float, ℕ, ◌<◌, ◌≡◌, ◌∙◌, sym, get_or, arith, rules}
+use Rattle.std.proofs.lemmas.List.{same_lists}
+use Rattle.std.specs.Float.{nan}
+use Rattle.arith.proofs.Lists.{grown-length, grown-read}
 use Rattle.kernel.specs.Matern.{scaled_root_of}
-use Rattle.lanes.proofs.Rows.{eight-all}
-use borrow.Author.Rules.{rules}
+use Rattle.lanes.specs.Rows.{eight_of}
 use Rattle.lane_kernels.proofs.roots.scaled_roots.Goals as goal
 
-pub loop-p-init : goal.loop-p-init
-unfolding grown of_bits
-loop-p-init c = (omega arith, refl)
-
-pub loop-p-preserved : goal.loop-p-preserved
-unfolding scaled_root_of of_bits
-loop-p-preserved c =
-    let l = c.loop-p in
-    (search rules, rw (c.root.ensures, l.invariant.1, add-one l.p) (grown-set 8 _ l.p (omega arith)))
-
 pub returns : goal.returns
-returns c = rw c.loop-p.invariant.1 (eight-all _ _ (omega arith))
+returns c =
+    let made = c.map.ensures.items in
+    let f : ℕ → Float = λ p. scaled_root_of (get_or c.args.r_sq.now p nan) in
+    same_lists _ (eight_of f) (made.long ∙ sym (grown-length (λ xs i. f i) 8))
+    (λ i d h.
+    let l : i < 8 = omega (arith, made.long) in
+    let one = made.at i nan d l in
+    let e : get_or c.map.result i d ≡ f i = search rules in
+    e ∙ sym (grown-read (λ xs j. f j) 8 i d l))
