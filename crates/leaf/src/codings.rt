@@ -1,14 +1,13 @@
 // The leaves of `distribution` and `common`. Six words are a distribution; a malformed one is 11.
 use crate::reply::{Failure, Reply, Results, exactly, outcome, put, put_float};
-use distribution::{Distribution, ParamValue, Read};
-use encoding::InternalBounds;
+use distribution::{Distribution, ParamValue};
 
 // The distribution of six words.
 pub(crate) fn distribution(words: &[u64]) -> Result<Distribution, Failure> {
     let [kind, low, high, log, stepped, step]: [u64; 6] = exactly(words)?;
     match distribution_words::distribution_of(kind, low, high, log, stepped, step) {
-        Read::WellFormed(d) => Ok(d),
-        Read::Malformed => Err(Failure::Refused(11)),
+        Some(d) => Ok(d),
+        None => Err(Failure::Refused(11)),
     }
 }
 
@@ -45,12 +44,12 @@ pub(crate) fn taken(args: &[u64], results: &mut Results) -> Reply {
 pub(crate) fn internal_bounds(args: &[u64], results: &mut Results) -> Reply {
     let d = distribution(args)?;
     match encoding::internal_bounds(d) {
-        InternalBounds::Ends(lo, hi) => put(
+        Ok(Some((lo, hi))) => put(
             [arith::word_of_float(lo), arith::word_of_float(hi)],
             results,
         ),
-        InternalBounds::Absent => put([], results),
-        InternalBounds::Refused(number) => Err(Failure::Refused(number)),
+        Ok(None) => put([], results),
+        Err(refusal) => Err(Failure::Refused(refusal.number())),
     }
 }
 

@@ -3,7 +3,6 @@ ghost use Rattle.std.specs.Prelude.{◌≤◌, length, IfOk};
 
 use crate::reply::{Failure, Reply, Results};
 use crate::{arithmetic, codings, draws, model, normal, records, runs};
-use word_text::Parsed;
 
 // The line's call, made.
 pub(crate) fn answer(line: &[u8], words: &mut [u64], results: &mut Results) -> Reply {
@@ -76,8 +75,8 @@ fn read_word(text: &[u8]) -> Result<u64, Failure> {
         return Err(Failure::Unreadable);
     };
     match word_text::parse(digits) {
-        Parsed::Word(w) => Ok(w),
-        Parsed::Malformed => Err(Failure::Unreadable),
+        Some(w) => Ok(w),
+        None => Err(Failure::Unreadable),
     }
 }
 

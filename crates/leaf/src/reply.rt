@@ -1,7 +1,7 @@
 // What a call answers.
 ghost use Rattle.std.specs.Prelude.{◌≤◌};
 
-use arith::Outcome;
+use refusal::Refusal;
 
 // The array to whose start a call puts the words of its result.
 pub type Results = [u64; 8192];
@@ -47,10 +47,10 @@ pub(crate) fn put_float(x: f64, results: &mut Results) -> Reply {
 }
 
 // The value of a function with a domain.
-pub(crate) fn outcome(o: Outcome) -> Result<f64, Failure> {
+pub(crate) fn outcome(o: Result<f64, Refusal>) -> Result<f64, Failure> {
     match o {
-        Outcome::Value(x) => Ok(x),
-        Outcome::Refused(number) => Err(Failure::Refused(number)),
+        Ok(x) => Ok(x),
+        Err(refusal) => Err(Failure::Refused(refusal.number())),
     }
 }
 

@@ -28,8 +28,8 @@ fn dot(a: &[f64], b: &[f64], n: usize) -> f64
     ensures { result ≡ products (take n a.now) (take n b.now) }
 {
     match arith::dot(&a[..n], &b[..n]) {
-        Outcome::Value(v) => v,
-        Outcome::Refused(_) => 0.0,
+        Ok(v) => v,
+        Err(_) => 0.0,
     }
 }
 

@@ -19,7 +19,7 @@ fn store_words(line: &[u8], k: usize, out: &mut [u64], at: usize) -> bool
 {
     for i in 0..k {
         let start = 17 * i;
-        let Parsed::Word(w) = word_text::parse(&line[start..start + 16]) else {
+        let Some(w) = word_text::parse(&line[start..start + 16]) else {
             return false;
         };
         out[at + i] = w;

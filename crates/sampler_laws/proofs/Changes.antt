@@ -30,7 +30,7 @@ use Rattle.sampler_state.specs.declared.Sampler.{Sampler}
 use Rattle.sampler_laws.specs.Calls.{with_word, with_place, activated, with_dimension}
 use Rattle.sampler_laws.specs.Laws.{Typed}
 use Rattle.sampler_state.specs.State.{place_at, taken, progress_ok, place_ok}
-use Rattle.sampler_laws.proofs.Parts.{Ok, Well, ready}
+use Rattle.sampler_laws.proofs.Parts.{Checked, Well, ready}
 use Rattle.sampler_state.proofs.Held.{Once, each_set}
 
 -- ---- one place
@@ -86,7 +86,7 @@ module _ (s : Sampler) (g : Well s) where
   abbrev t : Typed s
   t = g.typed
 
-  abbrev o : Ok s
+  abbrev o : Checked s
   o = g.ok
 
   pub with-word : (w : ℕ) → Nonzero w → Well (with_word s w)

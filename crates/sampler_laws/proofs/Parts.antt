@@ -21,7 +21,7 @@ use Rattle.sampler_laws.specs.Laws.{Typed}
 use Rattle.sampler_state.specs.State.{place_at, taken, place_ok, sampler_ok}
 use Rattle.sampler_state.proofs.Held.{Once, once, from-once}
 
-pub record Ok (s : Sampler) : Type 0 where
+pub record Checked (s : Sampler) : Type 0 where
   pub settings : T (settings_ok s.settings)
   pub word : T (not (eqb s.word 0))
   pub dimensions : T (dimensions_ok s.dimensions s.n_dims)
@@ -29,7 +29,7 @@ pub record Ok (s : Sampler) : Type 0 where
   pub places : (i : ℕ) → i < 32 → T (place_ok s.active s.dimensions s.n_dims (place_at s.places i))
   pub once : Once s.places
 
-ok-parts : (s : Sampler) → T (sampler_ok s) → Ok s
+ok-parts : (s : Sampler) → T (sampler_ok s) → Checked s
 unfolding sampler_ok
 ok-parts s t = record {
   settings = search parts depth 9;
@@ -40,7 +40,7 @@ ok-parts s t = record {
   once = once s.places (search parts depth 9);
 }
 
-pub parts-ok : (s : Sampler) → Ok s → T (sampler_ok s)
+pub parts-ok : (s : Sampler) → Checked s → T (sampler_ok s)
 unfolding sampler_ok
 parts-ok s o =
     let a = o.settings in
@@ -62,7 +62,7 @@ taken-active s t i l h =
 -- as a program has it, and well-formed
 pub record Well (s : Sampler) : Type 0 where
   pub typed : Typed s
-  pub ok : Ok s
+  pub ok : Checked s
 
 pub well : (s : Sampler) → Typed s → T (sampler_ok s) → Well s
 well s t o = record { typed = t; ok = ok-parts s o }

@@ -58,7 +58,7 @@ pub record WordsDrawn : Type 0 where
 
 -- ---- well-formed samplers
 
-pub record Some : Type 0 where
+pub record WellFormed : Type 0 where
   -- as made
   pub fresh : (s : Settings) → s.seed < 2 ^ 64 → T (settings_ok s) → Typed (fresh_of s) × T (sampler_ok (fresh_of s))
   -- after a call

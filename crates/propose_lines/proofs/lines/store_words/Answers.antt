@@ -39,7 +39,7 @@ unfolding every
 loop-i-preserved c =
     let a = c.args in
     let n = words-length a.k a.line.now in
-    let w = parsed (goal.at.loop-i-preserved c).After-parse ∙ c.in-Word.is in
+    let w = parsed (goal.at.loop-i-preserved c).After-parse ∙ c.in-Some.is in
     let v = words-at a.k a.line.now c.loop-i.i (omega arith) ∙ ap word_of w in (
       search rules,
       search rules,
