@@ -15,7 +15,7 @@ pub mod Power
 pub mod ChoiceLaws
 pub mod Scan
 pub mod Sign
-pub mod Whole
+mod StdFloat
 pub mod Within
 pub mod WordFacts
 pub mod Zero

@@ -107,9 +107,6 @@ unfolding sub
 sub_within f b c g h x y p q = add-within f b c g h x (neg y) p (neg-within (fin false c h) y q)
 
 -- ---- the quotient, by a finite divisor of size c or more
-zero-mul-le : (c k : ℕ) → c ≤ 0 * k → c ≡ 0
-zero-mul-le c k h = omega arith
-
 div-cross : (m e n d b g c h : ℕ) → m * g ≤ b * e → c * d ≤ n * h → m * d * (c * g) ≤ b * h * (n * e)
 div-cross m e n d b g c h p q =
     simp (mul_assoc, mul_comm, mul_left_comm) (simp (mul_assoc, mul_comm, mul_left_comm) at (mul-le-mul p q))

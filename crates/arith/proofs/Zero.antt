@@ -1,11 +1,11 @@
 -- How a finite value compares with 0, by its sign bit and its digits. Assumes nothing.
-use Rattle.std.proofs.Common.{◌≡◌, ℕ, zero, suc, ◌+◌, ◌*◌, ◌^◌, ◌<◌, ◌≤◌, Bool, true, false, not, ◌||◌, T, eqb, ◌⊎◌, ℤ, pos, negsuc, refl, inl, inr, lt_of_lt_of_le, lt_irrefl, zero-lt-suc, mul-pos, arith, eqb→eq, ltb→lt, nltb→le}
+use Rattle.std.proofs.Common.{◌≡◌, ℕ, zero, suc, ◌+◌, ◌*◌, ◌^◌, ◌<◌, ◌≤◌, Bool, true, false, not, T, ◌⊎◌, ℤ, pos, negsuc, refl, inl, inr, lt_of_lt_of_le, lt_irrefl, zero-lt-suc, mul-pos, arith, eqb→eq, ltb→lt, nltb→le}
 use native.Mathlib.Nat.{pow-succ'}
-use mathlib.Core.Bool.{beq, false≢true}
-use lib.Ieee.{Float, nan, inf, fin, binary64, up, down, fits, lt, eq, of_bits}
-use lib.Ieee.Fits.{up_pos, and_l, and_i, eq→eqb}
+use mathlib.Core.Bool.{false≢true}
+use lib.Ieee.{Float, nan, inf, fin, binary64, up, down, fits, lt, of_bits}
+use lib.Ieee.Fits.{up_pos}
 use lib.Ieee.Positive.{positive}
-use Rattle.arith.proofs.Tests.{or_right, either}
+use Rattle.arith.proofs.Tests.{either}
 
 abbrev pub zero_f : Float
 zero_f = of_bits binary64 0
@@ -20,17 +20,6 @@ unfolding fits
 zero_exponent s (pos zero) f = refl
 zero_exponent s (pos (suc a)) f = let p = pow-succ' 2 a in let k = eqb→eq (2 ^ suc a * 1) 1 f in absurd (omega arith)
 zero_exponent s (negsuc a) f = let p = pow-succ' 2 a in let k = eqb→eq (1 * 2 ^ suc a) 1 f in absurd (omega arith)
-
-pub eq-zero : (s : Bool) (m : ℕ) (e : ℤ) → T (eq (fin s m e) zero_f) → m ≡ 0
-unfolding eq of_bits
-eq-zero s m e h =
-    no-digits m e (let k = eqb→eq (m * up e * 1) (0 * 1 * down e) (and_l (eqb (m * up e * 1) (0 * 1 * down e)) (beq s false || eqb (m * up e * 1) 0) h) in omega arith)
-
-pub zero-eq : (s : Bool) (e : ℤ) → T (eq (fin s 0 e) zero_f)
-unfolding eq of_bits
-zero-eq s e =
-    and_i (eqb (0 * up e * 1) (0 * 1 * down e)) (beq s false || eqb (0 * up e * 1) 0) (eq→eqb {a = 0 * up e * 1} {b = 0 * 1 * down e} (omega arith))
-    (or_right (beq s false) (eqb (0 * up e * 1) 0) (eq→eqb {a = 0 * up e * 1} {b = 0} (omega arith)))
 
 pub lt-zero : (s : Bool) (m : ℕ) (e : ℤ) → T (lt (fin s m e) zero_f) → s ≡ true
 unfolding lt of_bits

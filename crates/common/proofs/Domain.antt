@@ -24,7 +24,7 @@ use Rattle.arith.specs.Rounding.{nearest_of, round_of}
 use Rattle.arith.proofs.Tests.{taken, either}
 use Rattle.arith.proofs.Order as order
 use Rattle.arith.proofs.Within.{bound, widen, cross, abs-round, div-within, add-in, sub_in, within, within-finite, upper, lower}
-use Rattle.arith.proofs.Whole.{whole}
+use Rattle.arith.proofs.Held.{held}
 use Rattle.exponential.proofs.ExpLaws.{exp-decoded, exp-drawn}
 use Rattle.arith.proofs.Back.{back-linear, back-log}
 use Rattle.rng_util.specs.Draws.{unit_of, unit_draw_of}
@@ -52,7 +52,7 @@ unfolding fits
 power-fits j h = lt→ltb (1 * 2 ^ j) (2 ^ 1024 * 1) (lt_of_le_of_lt (le_of_eq (one-mul (2 ^ j))) (lt_of_lt_of_le (pow-lt h) (le_of_eq (sym (mul-one (2 ^ 1024))))))
 
 power-round : (j : ℕ) → j < 1024 → round binary64 false (2 ^ j) 1 ≡ power (pos j)
-power-round j h = ap (λ (n : ℕ). round binary64 false n 1) (sym (one-mul (2 ^ j))) ∙ whole false 1 j (power-fits j h)
+power-round j h = ap (λ (n : ℕ). round binary64 false n 1) (sym (one-mul (2 ^ j))) ∙ held binary64 false 1 (pos j) (power-fits j h)
 
 -- ---- a value of at most 2 ^ j in size, as a whole number
 
