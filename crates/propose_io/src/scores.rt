@@ -1,68 +1,47 @@
 // The points drawn for a new trial with a model: a line for each, with its expected improvement and whether the trial
 // stored it.
-ghost use Rattle.std.specs.Prelude.{◌+◌, ◌≤◌, length};
+ghost use Rattle.std.specs.Prelude.{◌<◌, ◌≤◌, length};
 
 use gp_model::{Fit, Model};
+use history::Training;
 use sampler_state::Sampler;
 use text_laws::{Reader, Step};
 use word_text::Parsed;
 
-// Puts the digits of w and the byte after them into the line, from `at` on.
-fn put_word(line: &mut [u8], at: usize, w: u64, end: u8)
-    requires { at + 17 ≤ length line.old }
+// Writes these words as a line.
+fn put_words(rt: HostRuntime, words: &[u64]) -> bool
+    requires { (0 < length words.now) × (length words.now ≤ 24) }
 {
-    let digits = word_text::print(w);
-    let to = at + 16;
-    line[at..to].copy_from_slice(&digits);
-    line[to] = end;
-}
-
-// Writes the first n of these words as a line.
-fn put_words(rt: HostRuntime, words: &[u64; 24], n: usize) -> bool
-    requires { n ≤ 24 }
-{
-    let mut line = [0u8; 408];
-    let mut i = 0;
-    while i < n {
-        let end = if i + 1 < n { b' ' } else { b'\n' };
-        put_word(&mut line, 17 * i, words[i], end);
-        i += 1;
+    let mut line = [b' '; 408];
+    for (i, word) in words.iter().enumerate() {
+        let start = 17 * i;
+        line[start..start + 16].copy_from_slice(&word_text::print(*word));
     }
-    crate::put(rt, &line[0..17 * n])
+    let end = 17 * words.len();
+    line[end - 1] = b'\n';
+    crate::put(rt, &line[..end])
 }
 
 // The words of a point's line. A point is zero past its columns.
 fn point_words(trial: u64, index: u64, score: f64, stored: bool, x: &[f64; 20]) -> [u64; 24] {
     let mut words = [0u64; 24];
-    words[0] = trial;
-    words[1] = index;
-    words[2] = arith::word_of_float(score);
-    words[3] = if stored { 1 } else { 0 };
-    let mut j = 0;
-    while j < 20 {
-        words[4 + j] = arith::word_of_float(x[j]);
-        j += 1;
+    words[..4].copy_from_slice(&[trial, index, arith::word_of_float(score), stored as u64]);
+    for (word, x) in words[4..].iter_mut().zip(x) {
+        *word = arith::word_of_float(*x);
     }
     words
 }
 
 // Whether two points are equal, word for word.
 fn is_same(a: &[f64; 20], b: &[f64; 20]) -> bool {
-    let mut j = 0;
-    while j < 20 {
-        if arith::word_of_float(a[j]) != arith::word_of_float(b[j]) {
-            return false;
-        }
-        j += 1;
-    }
-    true
+    a.iter().zip(b).all(|(x, y)| arith::word_of_float(*x) == arith::word_of_float(*y))
 }
 
 // The expected improvement at a point of d columns.
 fn score(m: &Model, x: &[f64; 20], d: usize) -> f64
     requires { d ≤ 20 }
 {
-    let p = prediction::predict(*m, &x[0..d]);
+    let p = prediction::predict(*m, &x[..d]);
     acquisition::expected_improvement(p.mean, p.std, m.f_best)
 }
 
@@ -74,27 +53,25 @@ fn put_points(rt: HostRuntime, trial: u64, m: &Model, d: usize, candidates: u64,
     let best = searched.point;
     let mut found = false;
     let mut next = word;
-    let mut i = 0;
-    while i < candidates {
+    for i in 0..candidates {
         let drawn = search::draw_point(d, next);
         let x = drawn.point;
         let stored = !found && is_same(&x, &best);
         let words = point_words(trial, i, score(m, &x, d), stored, &x);
-        if !put_words(rt, &words, 4 + d) {
+        if !put_words(rt, &words[..4 + d]) {
             return false;
         }
         found = found || stored;
         next = drawn.next;
-        i += 1;
     }
     true
 }
 
-// The model of n rows of d columns.
-fn fit(x: &[f64; 2000], y: &[f64; 100], n: usize, d: usize, noise_variance: f64) -> Fit
-    requires { (n ≤ 100) × (d ≤ 20) }
+// The model of these data.
+fn fit(t: &Training, noise_variance: f64) -> Fit
+    requires { (t.now.n ≤ 100) × (t.now.d ≤ 20) }
 {
-    gp_model::fit_gp(&x[0..n * d], &y[0..n], d, noise_variance)
+    gp_model::fit_gp(&t.x[..t.n * t.d], &t.y[..t.n], t.d, noise_variance)
 }
 
 // The points of a new trial, where this sampler has a model for it. Whether all is written. (No training data have over
@@ -104,12 +81,11 @@ fn put_trial(rt: HostRuntime, s: &Sampler, trial: u64, h: &[u64]) -> bool {
     let slots = settings.slots as usize;
     let v = history_view::view_of(slots, settings.n_startup_trials, s.dimensions, s.n_dims, h);
     let t = v.training;
-    let n = t.n;
     let d = t.d;
-    if !v.reached || d < 1 || d > 20 || n > 100 {
+    if !v.reached || d < 1 || d > 20 || t.n > 100 {
         return true;
     }
-    let f = fit(&t.x, &t.y, n, d, settings.noise_variance);
+    let f = fit(&t, settings.noise_variance);
     if f.number != 0 {
         return true;
     }
@@ -136,9 +112,8 @@ pub(crate) fn put_step(rt: HostRuntime, before: &Reader, t: &Step, history: &[u6
     if !is_new(&before.sampler, &t.reader.sampler, trial) {
         return true;
     }
-    let n = before.count;
-    if n > history.len() {
-        return true;
+    match history.get(..before.count) {
+        Some(h) => put_trial(rt, &before.sampler, trial, h),
+        None => true,
     }
-    put_trial(rt, &before.sampler, trial, &history[0..n])
 }
