@@ -6,7 +6,6 @@ use gp_model::{Fit, Model};
 use history::Training;
 use sampler_state::Sampler;
 use text_laws::{Reader, Step};
-use word_text::Parsed;
 
 // Writes these words as a line.
 fn put_words(rt: HostRuntime, words: &[u64]) -> bool
@@ -100,13 +99,13 @@ fn is_new(before: &Sampler, after: &Sampler, trial: u64) -> bool {
 }
 
 // The trial of an answer's line, its first word.
-fn trial_of(bytes: &[u8; 68]) -> Parsed {
+fn trial_of(bytes: &[u8; 68]) -> Option<u64> {
     word_text::parse(&bytes[0..16])
 }
 
 // The points of the trial that a step made new with a model; nothing for any other step. Whether all is written.
 pub(crate) fn put_step(rt: HostRuntime, before: &Reader, t: &Step, history: &[u64]) -> bool {
-    let Parsed::Word(trial) = trial_of(&t.bytes) else {
+    let Some(trial) = trial_of(&t.bytes) else {
         return true;
     };
     if !is_new(&before.sampler, &t.reader.sampler, trial) {
