@@ -1,4 +1,5 @@
 mod Cases
+pub mod Elements
 pub mod Tests
 pub mod Accepted
 pub mod Back

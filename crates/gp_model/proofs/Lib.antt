@@ -1,4 +1,3 @@
-pub mod All
 pub mod Cases
 pub mod Domain
 pub mod Table

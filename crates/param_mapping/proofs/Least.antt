@@ -110,9 +110,3 @@ entries-better t row s = go (present (slot_at row s))
         ≡ cond (b && t (slot_at row s) && (not (first_entry t (entries_of row s)).found || ltb (id_of (slot_at row s)) (first_entry t (entries_of row s)).id)) (record { found = true; id = id_of (slot_at row s) }) (first_entry t (entries_of row s))
     go true = first-insert t (slot_at row s) (entries_of row s) (entries_sorted row s)
     go false = refl
-
--- equal tests find the same
-pub first-same : (t u : List ℕ → Bool) (ws : List (List ℕ)) → ((v : List ℕ) → t v ≡ u v) → first_entry t ws ≡ first_entry u ws
-unfolding first_entry
-first-same t u [] h = refl
-first-same t u (w ∷ ws) h = rw (h w, first-same t u ws h)

@@ -3,39 +3,35 @@ use Rattle.std.specs.Prelude.{Some}
 use Prim.Native.Nat.{ℕ, zero, suc, ◌+◌, ◌*◌, ◌≤◌, ◌<◌}
 use native.Mathlib.Omega.{arith}
 use mathlib.Core.Path.{◌≡◌, refl, sym, ap, ◌∙◌, subst}
-use mathlib.Core.Bool.{Bool, not, cond, ◌&&◌}
+use mathlib.Core.Bool.{cond}
 use mathlib.Core.List.{List, [], ◌∷◌}
-use lib.ListN.{length, get_or, set, take, replicate, get_or-replicate}
+use lib.ListN.{length, set, take, replicate, get_or-replicate}
 use lib.Seq.{take-nil, drop-nil, set-get_or}
 use Rattle.arith.specs.Lists.{grown, filled}
-use Rattle.arith.proofs.Lists.{every-same, grown-length, grown-filled-set, filled_at}
-use Rattle.distribution.specs.declared.Distribution.{Distribution}
+use Rattle.arith.proofs.Lists.{grown-length, grown-filled-set, filled-take}
 use Rattle.dimensions.specs.declared.DimensionInfo.{DimensionInfo}
 use Rattle.param_mapping.specs.declared.Mapped.{Mapped}
 use Rattle.dimensions.specs.Dimensions.{dimension_at}
-use Rattle.param_mapping.specs.Mapping.{none, insert_by_id, entries_of, first_entry, is_mapped, consumed_of, matches_of, mapped_of}
+use Rattle.param_mapping.specs.Mapping.{none, insert_by_id, entries_of, first_entry, matches_of, mapped_of}
 use Rattle.history_rows.specs.Rows.{width_of, row_at, slot_at}
-use Rattle.slots.specs.Slot.{id_of, present, slot_read, reads_equal}
-use Rattle.param_mapping.proofs.Least.{first-same}
-
--- past the dimensions before, the array is not read
-matches-same : (before : List Mapped) (j : ℕ) (d : Distribution) (v : List ℕ) → length before ≡ j → matches_of (filled none 20 before) j d v ≡ matches_of before j d v
-unfolding matches_of consumed_of
-matches-same before j d v e =
-    ap (λ (b : Bool). reads_equal (Some d) (slot_read v) && not (not b))
-    (every-same j (λ i. not (is_mapped (id_of v) (get_or (filled none 20 before) i none))) (λ i. not (is_mapped (id_of v) (get_or before i none))) (λ i l. ap (λ (m : Mapped). not (is_mapped (id_of v) m)) (filled_at none 20 before i none (subst (λ (k : ℕ). i < k) (sym e) l))))
+use Rattle.slots.specs.Slot.{present}
 
 pub mapped-length : (n : ℕ) (dims : List DimensionInfo) (k : ℕ) (row : List ℕ) → length (mapped_of n dims k row) ≡ k
 unfolding mapped_of
 mapped-length n dims k row = grown-length (λ before j. first_entry (matches_of before j (dimension_at dims j).distribution) (entries_of row n)) k
 
-pub mapped-set : (n : ℕ) (dims : List DimensionInfo) (j : ℕ) (row : List ℕ) → j < 20 → let out = filled none 20 (mapped_of n dims j row) in
-    set out j (first_entry (matches_of out j (dimension_at dims j).distribution) (entries_of row n)) ≡ filled none 20 (mapped_of n dims (suc j) row)
+-- the ids that the array holds
+pub mapped-take : (n : ℕ) (dims : List DimensionInfo) (j : ℕ) (row : List ℕ) → take j (filled none 20 (mapped_of n dims j row)) ≡ mapped_of n dims j row
+mapped-take n dims j row =
+    let before = mapped_of n dims j row in
+    subst (λ (k : ℕ). take k (filled none 20 before) ≡ before) (mapped-length n dims j row) (filled-take none 20 before)
+
+pub mapped-set : (n : ℕ) (dims : List DimensionInfo) (j : ℕ) (row : List ℕ) → j < 20 → let before = mapped_of n dims j row in
+    set (filled none 20 before) j (first_entry (matches_of before (length before) (dimension_at dims j).distribution) (entries_of row n)) ≡ filled none 20 (mapped_of n dims (suc j) row)
 unfolding mapped_of
 mapped-set n dims j row h =
     let before = mapped_of n dims j row in
-    let d = (dimension_at dims j).distribution in
-    ap (λ (m : Mapped). set (filled none 20 before) j m) (first-same (matches_of (filled none 20 before) j d) (matches_of before j d) (entries_of row n) (λ v. matches-same before j d v (mapped-length n dims j row)))
+    ap (λ (k : ℕ). set (filled none 20 before) j (first_entry (matches_of before k (dimension_at dims j).distribution) (entries_of row n))) (mapped-length n dims j row)
     ∙ grown-filled-set none 20 (λ before j. first_entry (matches_of before j (dimension_at dims j).distribution) (entries_of row n)) j h
 
 -- ---- a row of no words

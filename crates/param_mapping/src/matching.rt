@@ -9,36 +9,33 @@ use crate::{Mapped, Mapping};
 use dimensions::DimensionInfo;
 use distribution::Distribution;
 
+// No id.
+const NONE: Mapped = Mapped {
+    found: false,
+    id: 0,
+};
+
 fn is_mapped(id: u64, m: Mapped) -> bool
     ensures { result ≡ is_mapped id m }
 {
     m.found && m.id == id
 }
 
-// Whether one of the first j dimensions consumed the id.
-fn consumed(mapping: [Mapped; 20], j: usize, id: u64) -> bool
-    requires { j ≤ 20 }
-    ensures { result ≡ consumed_of mapping j id }
+// Whether one of the dimensions before this one consumed the id.
+#[tactic(auto, unfolding(crate::specs::Mapping::consumed_of))]
+fn consumed(before: &[Mapped], id: u64) -> bool
+    ensures { result ≡ consumed_of before.now (length before.now) id }
 {
-    let mut i = 0;
-    while i < j {
-        if is_mapped(id, mapping[i]) {
-            return true;
-        }
-        i += 1;
-    }
-    false
+    before.iter().any(|m| is_mapped(id, *m))
 }
 
-// Whether dimension j may consume the slot.
-fn matches(mapping: [Mapped; 20], j: usize, d: Distribution, slot: &[u64]) -> bool
-    requires { (j ≤ 20) × (length slot.now ≡ 8) }
-    ensures { result ≡ matches_of mapping j d slot.now }
+// Whether the dimension after these may consume the slot.
+#[tactic(auto, unfolding(crate::specs::Mapping::matches_of))]
+fn matches(before: &[Mapped], d: Distribution, slot: &[u64]) -> bool
+    requires { length slot.now ≡ 8 }
+    ensures { result ≡ matches_of before.now (length before.now) d slot.now }
 {
-    if !slots::reads_equal(Some(d), slots::read(slot)) {
-        return false;
-    }
-    !consumed(mapping, j, slot[0])
+    slots::reads_equal(Read::WellFormed(d), slots::read(slot)) && !consumed(before, slot[0])
 }
 
 // Whether an id comes before that of the entry found so far.
@@ -49,56 +46,39 @@ fn beats(id: u64, best: Mapped) -> bool
 }
 
 // The better of a slot and the entry found so far.
-fn better(mapping: [Mapped; 20], j: usize, d: Distribution, slot: &[u64], best: Mapped) -> Mapped
-    requires { (j ≤ 20) × (length slot.now ≡ 8) }
-    ensures { result ≡ better_of (matches_of mapping j d) slot.now best }
+fn better(before: &[Mapped], d: Distribution, slot: &[u64], best: Mapped) -> Mapped
+    requires { length slot.now ≡ 8 }
+    ensures { result ≡ better_of (matches_of before.now (length before.now) d) slot.now best }
 {
-    if !slots::is_present(slot) {
-        return best;
-    }
-    if !matches(mapping, j, d, slot) {
-        return best;
-    }
     let id = slot[0];
-    if beats(id, best) {
+    if slots::is_present(slot) && matches(before, d, slot) && beats(id, best) {
         return Mapped { found: true, id };
     }
     best
 }
 
-// The first entry by id that dimension j may consume.
-fn first_entry(n: usize, row: &[u64], mapping: [Mapped; 20], j: usize, d: Distribution) -> Mapped
-    requires { (n ≤ 20) × (length row.now ≡ width_of n) × (j ≤ 20) }
-    ensures { result ≡ first_entry (matches_of mapping j d) (entries_of row.now n) }
+// The first entry by id that the dimension after these may consume.
+fn first_entry(n: usize, row: &[u64], before: &[Mapped], d: Distribution) -> Mapped
+    requires { (n ≤ 20) × (length row.now ≡ width_of n) }
+    ensures { result ≡ first_entry (matches_of before.now (length before.now) d) (entries_of row.now n) }
 {
-    let mut best = Mapped {
-        found: false,
-        id: 0,
-    };
-    let mut s = 0;
-    while s < n {
+    let mut best = NONE;
+    for s in 0..n {
         let at = 3 + 8 * s;
-        best = better(mapping, j, d, &row[at..at + 8], best);
-        s += 1;
+        best = better(before, d, &row[at..at + 8], best);
     }
     best
 }
 
 // The ids of k dimensions in a row.
-fn mapped(n: usize, dims: [DimensionInfo; 20], k: usize, row: &[u64]) -> [Mapped; 20]
+fn mapped(n: usize, dims: &[DimensionInfo; 20], k: usize, row: &[u64]) -> [Mapped; 20]
     requires { (n ≤ 20) × (k ≤ 20) × (length row.now ≡ width_of n) }
-    ensures { result ≡ filled none 20 (mapped_of n dims k row.now) }
+    ensures { result ≡ filled none 20 (mapped_of n dims.now k row.now) }
 {
-    let mut out = [Mapped {
-        found: false,
-        id: 0,
-    }; 20];
-    let mut j = 0;
-    while j < k {
+    let mut out = [NONE; 20];
+    for j in 0..k {
         let dim = dims[j];
-        let d = dim.distribution;
-        out[j] = first_entry(n, row, out, j, d);
-        j += 1;
+        out[j] = first_entry(n, row, &out[..j], dim.distribution);
     }
     out
 }
@@ -106,25 +86,22 @@ fn mapped(n: usize, dims: [DimensionInfo; 20], k: usize, row: &[u64]) -> [Mapped
 // The mapping from the first of m recent rows; without one nothing is found.
 fn recent_mapping(
     n: usize,
-    dims: [DimensionInfo; 20],
+    dims: &[DimensionInfo; 20],
     k: usize,
     m: usize,
     r: &[u64],
 ) -> [Mapped; 20]
     requires { (n ≤ 20) × (k ≤ 20) × (length r.now ≡ m * width_of n) }
-    ensures { result ≡ filled none 20 (mapped_of n dims k (row_at n r.now 0)) }
+    ensures { result ≡ filled none 20 (mapped_of n dims.now k (row_at n r.now 0)) }
 {
     if m == 0 {
-        return [Mapped {
-            found: false,
-            id: 0,
-        }; 20];
+        return [NONE; 20];
     }
-    let w = 3 + 8 * n;
-    mapped(n, dims, k, &r[0..w])
+    mapped(n, dims, k, &r[..3 + 8 * n])
 }
 
 // The number of a call with dimensions: 11 for the dimensions, then the history's.
+#[tactic(auto, unfolding(crate::specs::Mapping::number_of))]
 fn number(slots: usize, dims: [DimensionInfo; 20], k: usize, h: &[u64]) -> u64
     ensures { result ≡ number_of slots dims k h.now }
 {
@@ -147,15 +124,12 @@ pub fn establish_param_mapping(
     if number != 0 {
         return Mapping {
             number,
-            ids: [Mapped {
-                found: false,
-                id: 0,
-            }; 20],
+            ids: [NONE; 20],
         };
     }
     let recent = history_rows::recent_part(slots, h);
     let start = recent.start;
     let m = recent.rows;
-    let ids = recent_mapping(slots, dims, k, m, &h[start..]);
+    let ids = recent_mapping(slots, &dims, k, m, &h[start..]);
     Mapping { number: 0, ids }
 }

@@ -22,9 +22,9 @@ use Rattle.settings.specs.Settings.{settings_ok}
 use Rattle.proposal.specs.Points.{fit_for, search_point, unit_point, point_for}
 use Rattle.proposal.specs.Proposal.{candidate_of, candidate_number, refused_of, compute_candidate_of}
 
-pub point-few : (t : Training) (noise : Float) (candidates w : ℕ) → candidates ≤ 10000 → t.d ≤ 20 → (point_for t noise candidates w).drawn ≤ 200000
+pub point_few : (t : Training) (noise : Float) (candidates w : ℕ) → candidates ≤ 10000 → t.d ≤ 20 → (point_for t noise candidates w).drawn ≤ 200000
 unfolding point_for
-point-few t noise candidates w h k = go (eqb (fit_for t noise).number 0)
+point_few t noise candidates w h k = go (eqb (fit_for t noise).number 0)
   where
     go : (b : Bool) → (cond b (search_point (fit_for t noise) t.d candidates w) (unit_point t.d w)).drawn ≤ 200000
     go true = mul-le-mul h k

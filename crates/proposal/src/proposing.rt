@@ -48,6 +48,7 @@ fn asks_model(reached: bool, d: usize) -> bool
 }
 
 // By a view that is not refused.
+#[tactic(auto, using(crate::proofs::Numbers::point_few), unfolding(crate::specs::Proposal::candidate_of))]
 fn candidate(s: Settings, dims: [DimensionInfo; 20], k: usize, word: u64, v: View) -> Proposal
     requires { (k ≤ 20) × (0 < word) × (s.n_candidates ≤ 10000) × Counts v.training }
     ensures { result ≡ candidate_of s dims k word v }

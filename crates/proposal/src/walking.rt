@@ -32,6 +32,7 @@ fn decoded(d: DimensionInfo, u: f64) -> ParamValue
 }
 
 // A dimension's value, decoded where a point is given and it is continuous, else at random.
+#[tactic(auto, unfolding(crate::specs::Values::step_of))]
 fn step(given: bool, d: DimensionInfo, u: f64, word: u64) -> RandomDraw
     ensures { result ≡ step_of given d u word }
 {
@@ -63,8 +64,7 @@ pub(crate) fn walk(
     let mut drawn = 0;
     let mut next = word;
     let mut c = 0;
-    let mut j = 0;
-    while j < k {
+    for j in 0..k {
         let dim = dims[j];
         let distribution = dim.distribution;
         let r = step(given, dim, point[c], next);
@@ -73,7 +73,6 @@ pub(crate) fn walk(
         drawn += r.drawn;
         next = r.next;
         c += column_width(distribution);
-        j += 1;
     }
     Values {
         values,

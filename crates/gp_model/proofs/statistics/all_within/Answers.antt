@@ -6,7 +6,7 @@ use Rattle.std.proofs.lemmas.Iterator.Search.{all_from_yields_List}
 use lib.Ieee.{Float, nan, le}
 use Rattle.arith.specs.Bounds.{abs}
 use Rattle.gp_model.specs.Statistics.{all_within}
-use Rattle.gp_model.proofs.All.{all-every}
+use Rattle.arith.proofs.Elements.{all-every}
 use Rattle.gp_model.proofs.statistics.all_within.Goals as goal
 
 pub returns : goal.returns

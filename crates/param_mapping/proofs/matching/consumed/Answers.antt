@@ -1,33 +1,16 @@
 -- `param_mapping::matching::consumed` meets its contract. Assumes nothing.
-use Prim.Native.Nat.{ℕ}
-use mathlib.Core.Path.{◌≡◌, refl, sym, ap, ◌∙◌}
-use mathlib.Core.Bool.{not}
-use native.Mathlib.Numerals.{add-one}
-use native.Mathlib.Omega.{arith}
-use Rattle.arith.specs.Lists.{every}
-use Rattle.arith.proofs.Lists.{every-not}
-use lib.ListN.{get_or}
+use mathlib.Core.Path.{◌∙◌}
+use Rattle.std.proofs.Common.{rules, tests}
+use Rattle.std.proofs.lemmas.Iterator.{YieldsList-from_slice}
+use Rattle.std.proofs.lemmas.Iterator.Search.{any_from_yields_List}
+use Rattle.arith.proofs.Elements.{any-every}
+use Rattle.param_mapping.specs.declared.Mapped.{Mapped}
 use Rattle.param_mapping.specs.Mapping.{none, is_mapped, consumed_of}
-use borrow.Author.Rules.{rules}
 use Rattle.param_mapping.proofs.matching.consumed.Goals as goal
-
-pub loop-i-init : goal.loop-i-init
-unfolding every
-loop-i-init c = (search rules, refl)
-
-pub returns-then-is_mapped : goal.returns-then-is_mapped
-unfolding consumed_of
-returns-then-is_mapped c =
-    sym (ap not (every-not _ _ c.loop-i.i c.loop-i-test.true (ap not (sym c.is_mapped.ensures ∙ c.if-is_mapped.true))))
-
-pub loop-i-preserved : goal.loop-i-preserved
-unfolding every
-loop-i-preserved c =
-    (search rules, rw (add-one, c.loop-i.invariant.1, sym c.is_mapped.ensures, c.if-is_mapped.false))
 
 pub returns : goal.returns
 unfolding consumed_of
 returns c =
-    let a = c.args in
-    let e : c.loop-i.i ≡ a.j = omega arith in
-    ap not (sym c.loop-i.invariant.1 ∙ ap (λ (k : ℕ). every k (λ i. not (is_mapped a.id (get_or a.mapping i none)))) e)
+    let test = λ (m : Mapped). is_mapped c.args.id m in
+    any_from_yields_List test _ _ c.any.result c.any.ensures.ran (YieldsList-from_slice c.args.before.now cc) (λ x b q k. search (rules, tests))
+    ∙ any-every test none c.args.before.now

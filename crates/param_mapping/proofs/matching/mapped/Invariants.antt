@@ -1,11 +1,7 @@
-use Prim.Native.Nat.{◌-◌, ◌≤◌}
 use mathlib.Core.Path.{◌≡◌}
 use Rattle.arith.specs.Lists.{filled}
 use Rattle.param_mapping.specs.Mapping.{none, mapped_of}
 use Rattle.param_mapping.proofs.matching.mapped.Given as goal
 
 abbrev pub invariant-loop-j : goal.invariant-loop-j
-invariant-loop-j l = (l.j ≤ l.k) × (l.out ≡ filled none 20 (mapped_of l.n l.dims l.j l.row))
-
-abbrev pub decreases-loop-j : goal.decreases-loop-j
-decreases-loop-j l = l.k - l.j
+invariant-loop-j l = l.out ≡ filled none 20 (mapped_of l.n l.dims l.j l.row)

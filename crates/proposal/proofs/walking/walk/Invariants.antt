@@ -1,4 +1,3 @@
-use Prim.Native.Nat.{◌-◌, ◌≤◌}
 use mathlib.Core.Path.{◌≡◌}
 use lib.ListN.{length}
 use Rattle.arith.specs.Lists.{filled}
@@ -9,7 +8,5 @@ use Rattle.proposal.proofs.walking.walk.Given as goal
 
 abbrev pub invariant-loop-j : goal.invariant-loop-j
 invariant-loop-j l =
-    (l.j ≤ l.k) × (l.values ≡ filled empty_stored 20 (walk_of l.given l.point l.dims l.j l.word).values) × (l.drawn ≡ (walk_of l.given l.point l.dims l.j l.word).drawn) × (l.next ≡ (walk_of l.given l.point l.dims l.j l.word).next) × (l.c ≡ length (columns_of l.dims l.j))
-
-abbrev pub decreases-loop-j : goal.decreases-loop-j
-decreases-loop-j l = l.k - l.j
+    let w = walk_of l.given l.point l.dims l.j l.word in
+    (l.values ≡ filled empty_stored 20 w.values) × (l.drawn ≡ w.drawn) × (l.next ≡ w.next) × (l.c ≡ length (columns_of l.dims l.j))
