@@ -83,18 +83,25 @@ module _ (d e z q : ℕ) (D : d < 2 ^ 53) (E : e < 2047) (P : 0 < e) (Z : z ≤ 
         finite = omega arith;
       }
 
-  pub pattern-even : (1021 + e - z) % 2 ≡ 0 → Near (d * 2 ^ z % 2 ^ 64 / 4 * 2 ^ 54 + d * 2 ^ z % 2 ^ 64 % 4 * 4503599627370496) q → Pattern d e ((1021 + e - z) / 2 * 4503599627370496 + q)
-  pattern-even h near =
+  pub root_even : (n : ℕ) → n ≡ d * 2 ^ z * 2 ^ 52 → (1021 + e - z) % 2 ≡ 0 → Near n q → Pattern d e ((1021 + e - z) / 2 * 4503599627370496 + q)
+  root_even n m h near =
       finish ((1021 + e - z) / 2 - 475) 52 ((1021 + e - z) / 2) (omega arith) (omega arith) (omega arith) (omega arith)
-      (subst (λ (n : ℕ). Near n q) (words (d * 2 ^ z) hi) near)
+      (subst (λ (k : ℕ). Near k q) m near)
+
+  pub root_odd : (n : ℕ) → n ≡ d * 2 ^ z * 2 ^ 53 → ((1021 + e - z) % 2 ≡ 0 → ⊥) → Near n q → Pattern d e ((1021 + e - z) / 2 * 4503599627370496 + q)
+  root_odd n m h near =
+      finish ((1021 + e - z) / 2 - 475) 53 ((1021 + e - z) / 2) (omega arith) (omega arith) (omega arith) (omega arith)
+      (subst (λ (k : ℕ). Near k q) m near)
+
+  -- the same, with the number in two words, of which the lower has 54 bits
+  pub pattern-even : (1021 + e - z) % 2 ≡ 0 → Near (d * 2 ^ z % 2 ^ 64 / 4 * 2 ^ 54 + d * 2 ^ z % 2 ^ 64 % 4 * 4503599627370496) q → Pattern d e ((1021 + e - z) / 2 * 4503599627370496 + q)
+  pattern-even h near = root_even _ (words (d * 2 ^ z) hi) h near
     where
       words : (x : ℕ) → x < 2 ^ 53 → x % 2 ^ 64 / 4 * 2 ^ 54 + x % 2 ^ 64 % 4 * 4503599627370496 ≡ x * 2 ^ 52
       words x l = omega arith
 
   pub pattern-odd : ((1021 + e - z) % 2 ≡ 0 → ⊥) → Near (d * 2 ^ z % 2 ^ 64 / 2 * 2 ^ 54 + d * 2 ^ z % 2 ^ 64 % 2 * 9007199254740992) q → Pattern d e ((1021 + e - z) / 2 * 4503599627370496 + q)
-  pattern-odd h near =
-      finish ((1021 + e - z) / 2 - 475) 53 ((1021 + e - z) / 2) (omega arith) (omega arith) (omega arith) (omega arith)
-      (subst (λ (n : ℕ). Near n q) (words (d * 2 ^ z) hi) near)
+  pattern-odd h near = root_odd _ (words (d * 2 ^ z) hi) h near
     where
       words : (x : ℕ) → x < 2 ^ 53 → x % 2 ^ 64 / 2 * 2 ^ 54 + x % 2 ^ 64 % 2 * 9007199254740992 ≡ x * 2 ^ 53
       words x l = omega arith

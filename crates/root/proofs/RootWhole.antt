@@ -4,7 +4,6 @@ use Prim.Native.Nat.{ℕ, zero, suc, ◌+◌, ◌-◌, ◌*◌, ◌/◌, ◌%◌
 use native.Mathlib.Nat.{le_trans, le_of_eq, lt_of_le_of_lt, lt_of_lt_of_le, lt_of_not-le, not-le_of_lt, mul-le-mul, mul-lt-mul_of_pos_right, mul-le-mul_right, mul_comm, mul_assoc, mul_left_comm, mul-add, add-mul, mul-pos, one-mul, pow-suc, div-add-mod'}
 use native.Mathlib.Omega.{arith}
 use mathlib.Core.Bool.{Bool, true, false, not, cond}
-use borrow.Author.Tests.{le-leb, lt-leb}
 use lib.Dec.{T, leb, ltb, leb→le, nleb→lt, nltb→le, lit<, lit≤}
 use Rattle.root.specs.Sqrt.{better, isqrt, halves}
 
@@ -116,15 +115,7 @@ part-bounds q h =
     let z = mul-le-mul a a in
     (le_trans x (lit≤ tt), lt_of_le_of_lt y (lit< tt), z)
 
--- two tests that pass together
-pub leb-same : (a b c d : ℕ) → (a ≤ b → c ≤ d) → (b < a → d < c) → leb a b ≡ leb c d
-leb-same a b c d f g = go (leb a b) (leb→le a b) (nleb→lt a b)
-  where
-    go : (t : Bool) → (T t → a ≤ b) → (T (not t) → b < a) → t ≡ leb c d
-    go true p q = sym (le-leb c d (f (p tt)))
-    go false p q = sym (lt-leb c d (g (q tt)))
-
--- the same in two words, of which the lower has 54 bits
+-- the product in two words, of which the lower has 54 bits
 abbrev pub mid : ℕ → ℕ
 mid q = 2 * (q / B * (q % B))
 
@@ -136,24 +127,3 @@ hi q = q / B * (q / B) + mid q / B + lo q / 18014398509481984
 
 pub product_is : (q : ℕ) → q * (q + 1) ≡ hi q * 18014398509481984 + lo q % 18014398509481984
 product_is q = let e = square-parts q in omega arith
-
-pub word_lt : (q nh nl : ℕ) → nl < 2 ^ 54 → nh < hi q → true ≡ leb (nh * 2 ^ 54 + nl) (q * (q + 1))
-word_lt q nh nl l h = sym (le-leb (nh * 2 ^ 54 + nl) (q * (q + 1)) (let g = go (hi q) (lo q % 18014398509481984) (product_is q) h in g))
-  where
-    go : (h' l' : ℕ) → q * (q + 1) ≡ h' * 18014398509481984 + l' → nh < h' → nh * 2 ^ 54 + nl ≤ q * (q + 1)
-    go h' l' e k = omega arith
-
-pub word-gt : (q nh nl : ℕ) → hi q < nh → false ≡ leb (nh * 2 ^ 54 + nl) (q * (q + 1))
-word-gt q nh nl h = sym (lt-leb (nh * 2 ^ 54 + nl) (q * (q + 1)) (go (hi q) (lo q) (product_is q) h))
-  where
-    go : (h' l' : ℕ) → q * (q + 1) ≡ h' * 18014398509481984 + l' % 18014398509481984 → h' < nh → q * (q + 1) < nh * 2 ^ 54 + nl
-    go h' l' e k = omega arith
-
-pub word-eq : (q nh nl : ℕ) → hi q ≤ nh → nh ≤ hi q → leb nl (lo q % 18014398509481984) ≡ leb (nh * 2 ^ 54 + nl) (q * (q + 1))
-word-eq q nh nl a b = leb-same nl (lo q % 18014398509481984) (nh * 2 ^ 54 + nl) (q * (q + 1)) (yes (hi q) (lo q % 18014398509481984) (product_is q) a b) (no (hi q) (lo q % 18014398509481984) (product_is q) a b)
-  where
-    yes : (h l : ℕ) → q * (q + 1) ≡ h * 18014398509481984 + l → h ≤ nh → nh ≤ h → nl ≤ l → nh * 2 ^ 54 + nl ≤ q * (q + 1)
-    yes h l e x y k = omega arith
-
-    no : (h l : ℕ) → q * (q + 1) ≡ h * 18014398509481984 + l → h ≤ nh → nh ≤ h → l < nl → q * (q + 1) < nh * 2 ^ 54 + nl
-    no h l e x y k = omega arith

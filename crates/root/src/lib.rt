@@ -6,23 +6,12 @@ ghost use Rattle.root.specs.Sqrt.{sqrt_of};
 ghost use Rattle.root.specs.RootParts.{Near, Pattern};
 ghost use Rattle.root.specs.Rooted.{SqrtIsRounded};
 
-// Whether nh * 2^54 + nl is at most q * (q + 1), which has up to 107 bits. q is cut at bit 27.
-fn reaches(q: u64, nh: u64, nl: u64) -> bool
-    requires { (q ≤ 2 ^ 53) × (nl < 2 ^ 54) }
-    ensures { result ≡ leb (nh * 2 ^ 54 + nl) (q * (q + 1)) }
+// Whether n is at most q * (q + 1).
+fn reaches(q: u64, n: u128) -> bool
+    requires { q ≤ 2 ^ 53 }
+    ensures { result ≡ leb n (q * (q + 1)) }
 {
-    let a = q / 0x800_0000;
-    let b = q % 0x800_0000;
-    let t = 2 * (a * b);
-    let lo = t % 0x800_0000 * 0x800_0000 + b * b + q;
-    let hi = a * a + t / 0x800_0000 + lo / 0x40_0000_0000_0000;
-    if nh < hi {
-        return true;
-    }
-    if hi < nh {
-        return false;
-    }
-    nl <= lo % 0x40_0000_0000_0000
+    n <= u128::from(q) * u128::from(q + 1)
 }
 
 // 2^52 times z by its pattern where z is from 1 to 2, else some number of that size.
@@ -30,12 +19,9 @@ fn clamped(z: f64) -> u64
     ensures { (0 < result) × (result ≤ 2 ^ 53) }
 {
     if z > 0.0 {
-        let b = f64::to_bits(z);
-        if b > 0x3fe0_0000_0000_0000 {
-            let q = b - 0x3fe0_0000_0000_0000;
-            if q <= 0x20_0000_0000_0000 {
-                return q;
-            }
+        let q = z.to_bits().saturating_sub(0x3fe0_0000_0000_0000);
+        if (1..=0x20_0000_0000_0000).contains(&q) {
+            return q;
         }
     }
     0x10_0000_0000_0000
@@ -43,6 +29,7 @@ fn clamped(z: f64) -> u64
 
 // A number near 2^52 times the root of the float whose pattern is g, from 1 to 4. What it is decides
 // only how long `nearest` takes.
+#[tactic(auto, using(arith::proofs::Patterns::no_nan))]
 fn guess(g: u64) -> u64
     requires { (0x3ff0000000000000 ≤ g) × (g < 0x4010000000000000) }
     ensures { (0 < result) × (result ≤ 2 ^ 53) }
@@ -57,24 +44,27 @@ fn guess(g: u64) -> u64
     clamped(s + 0.5 * y * (x - s * s))
 }
 
-// The least number from q up that reaches.
-fn raised(start: u64, nh: u64, nl: u64) -> u64
-    requires { (0 < start) × (start ≤ 2 ^ 53) × (nl < 2 ^ 54) × (nh < 2 ^ 52) }
-    ensures { (0 < result) × (result ≤ 2 ^ 53) × (nh * 2 ^ 54 + nl ≤ result * (result + 1)) }
+// A number from `start` up that reaches.
+fn raised(start: u64, n: u128) -> u64
+    requires { (0 < start) × (start ≤ 2 ^ 53) × (n < 2 ^ 106) }
+    ensures { (0 < result) × (result ≤ 2 ^ 53) × (n ≤ result * (result + 1)) }
 {
+    // Kept: a test ends it, no count; `find` over a range would answer an Option that is never None.
     let mut q = start;
-    while !reaches(q, nh, nl) {
+    while !reaches(q, n) {
         q += 1;
     }
     q
 }
 
-fn nearest(g: u64, nh: u64, nl: u64) -> u64
-    requires { (0x3ff0000000000000 ≤ g) × (g < 0x4010000000000000) × (nl < 2 ^ 54) × (0 < nh) × (nh < 2 ^ 52) }
-    ensures { Near (nh * 2 ^ 54 + nl) result }
+// The whole number nearest to the root of n.
+fn nearest(g: u64, n: u128) -> u64
+    requires { (0x3ff0000000000000 ≤ g) × (g < 0x4010000000000000) × (0 < n) × (n < 2 ^ 106) }
+    ensures { Near n result }
 {
-    let mut q = raised(guess(g), nh, nl);
-    while reaches(q - 1, nh, nl) {
+    // Kept: as in `raised`.
+    let mut q = raised(guess(g), n);
+    while reaches(q - 1, n) {
         q -= 1;
     }
     q
@@ -85,7 +75,7 @@ fn shift(d: u64) -> u64
     requires { (0 < d) × (d < 2 ^ 53) }
     ensures { (result ≤ 52) × (2 ^ 52 ≤ d * 2 ^ result) × (d * 2 ^ result < 2 ^ 53) }
 {
-    (u64::leading_zeros(d) - 11) as u64
+    u64::from(d.leading_zeros() - 11)
 }
 
 // The pattern of the root of d * 2^(e - 1075).
@@ -96,21 +86,12 @@ fn pattern(d: u64, e: u64) -> u64
     let z = shift(d);
     let m = d << z;
     let f = 1021 + e - z;
-    if f % 2 == 0 {
-        let q = nearest(
-            m + 0x3fe0_0000_0000_0000,
-            m / 4,
-            m % 4 * 0x10_0000_0000_0000,
-        );
-        f / 2 * 0x10_0000_0000_0000 + q
+    let q = if f % 2 == 0 {
+        nearest(m + 0x3fe0_0000_0000_0000, u128::from(m) << 52)
     } else {
-        let q = nearest(
-            m + 0x3ff0_0000_0000_0000,
-            m / 2,
-            m % 2 * 0x20_0000_0000_0000,
-        );
-        f / 2 * 0x10_0000_0000_0000 + q
-    }
+        nearest(m + 0x3ff0_0000_0000_0000, u128::from(m) << 53)
+    };
+    f / 2 * 0x10_0000_0000_0000 + q
 }
 
 // The square root of x, correctly rounded.
@@ -118,7 +99,7 @@ pub fn sqrt(x: f64) -> f64
     ensures { result ≡ sqrt_of x }
 {
     if x > 0.0 {
-        let b = f64::to_bits(x);
+        let b = x.to_bits();
         if b >= 0x7ff0_0000_0000_0000 {
             return x;
         }

@@ -31,11 +31,13 @@ at c =
     let top = leading_top 64 d c.requires.0 c.ranges.d.fits in
     known d top.0 (count_leading_zeros 64 d) c.requires.1 top.2 top.3 top.1
 
-pub overflow_sub-result : goal.overflow_sub-result
-overflow_sub-result c = (at (goal.at.overflow_sub-result c).Start).least
-
-pub overflow_cast-result : goal.overflow_cast-result
-overflow_cast-result c = omega (arith, (at (goal.at.overflow_cast-result c).Start).most)
+pub overflow_sub-d : goal.overflow_sub-d
+overflow_sub-d c = (at (goal.at.overflow_sub-d c).Start).least
 
 pub returns : goal.returns
-returns c = (omega (arith, (at (goal.at.returns c).Start).most), (at (goal.at.returns c).Start).from-52, (at (goal.at.returns c).Start).to-53)
+returns c =
+    let s = at (goal.at.returns c).Start in
+    let d = c.args.d in
+    let e : c.from.result ≡ count_leading_zeros 64 d - 11 = c.from.ensures in
+    let m = s.most in
+    rw e (omega arith, s.from-52, s.to-53)

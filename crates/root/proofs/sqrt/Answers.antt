@@ -4,7 +4,6 @@ use Prim.Native.Nat.{ℕ, suc, ◌+◌, ◌-◌, ◌/◌, ◌%◌, ◌<◌}
 use native.Mathlib.Omega.{arith}
 use lib.Dec.{T}
 use lib.Ieee.{binary64, lt, div, of_bits, to_bits, fits}
-use Rattle.arith.proofs.Order.{le_of_lt, le-real}
 use Rattle.root.specs.RootParts.{Pattern}
 use Rattle.arith.proofs.Patterns.{no_nan}
 use Rattle.root.proofs.RootTop.{at-inf, bits_pos, at_low, at_high, at_zero, at_none}
@@ -17,9 +16,6 @@ held c = taken c.well_formed.0.1
 
 is_pos : (c : Then-x) → T (lt (of_bits binary64 0) c.args.x)
 is_pos c = taken c.if-x.true
-
-pub float_to_bits-b : goal.float_to_bits-b
-float_to_bits-b c = (le-real _ _ (le_of_lt _ _ (is_pos (goal.at.float_to_bits-b c).Then-x))).1
 
 pub returns-then-b-ge9218868437227405312 : goal.returns-then-b-ge9218868437227405312
 returns-then-b-ge9218868437227405312 c = at-inf c.args.x (held (goal.at.returns-then-b-ge9218868437227405312 c).Start) (is_pos (goal.at.returns-then-b-ge9218868437227405312 c).Then-x) c.if-b-ge9218868437227405312.true
