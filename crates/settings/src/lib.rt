@@ -72,23 +72,12 @@ impl Settings {
 }
 
 // Whether every setting is in its range.
+#[tactic(auto, unfolding(crate::specs::Settings::settings_ok))]
 pub fn in_range(s: Settings) -> bool
     ensures { result ≡ settings_ok s }
 {
-    if s.n_startup_trials > 0x1_0000_0000 {
+    if s.n_startup_trials > 0x1_0000_0000 || s.n_candidates > 10000 || s.seed == 0 {
         return false;
     }
-    if s.n_candidates > 10000 {
-        return false;
-    }
-    if !(0.0 <= s.noise_variance) {
-        return false;
-    }
-    if !(s.noise_variance <= 1000000.0) {
-        return false;
-    }
-    if s.seed == 0 {
-        return false;
-    }
-    1 <= s.slots && s.slots <= 20
+    0.0 <= s.noise_variance && s.noise_variance <= 1000000.0 && (1..=20).contains(&s.slots)
 }
