@@ -35,7 +35,7 @@ fn matches(before: &[Mapped], d: Distribution, slot: &[u64]) -> bool
     requires { length slot.now ≡ 8 }
     ensures { result ≡ matches_of before.now (length before.now) d slot.now }
 {
-    slots::reads_equal(Read::WellFormed(d), slots::read(slot)) && !consumed(before, slot[0])
+    slots::reads_equal(Some(d), slots::read(slot)) && !consumed(before, slot[0])
 }
 
 // Whether an id comes before that of the entry found so far.
