@@ -73,12 +73,7 @@ impl<'a> Columns<'a> {
     pub(crate) fn trains(&self, row: &Row) -> bool
         ensures { result ≡ trains_of row.now.slots self.now.mapping.now self.now.places.now row.now.words.now }
     {
-        for j in self.places {
-            if !row.covers(self.mapping[*j]) {
-                return false;
-            }
-        }
-        true
+        self.places.iter().all(|j| row.covers(self.mapping[*j]))
     }
 
     // A row's value for dimension j.

@@ -8,6 +8,7 @@ mod rows;
 pub use building::build_training_data;
 
 // Places, as many as the count says, in order: of the continuous dimensions, or of the rows that train.
+// Kept: an array with its count, since memory is fixed; what reads them takes a slice.
 #[derive(Drop)]
 pub struct Places {
     pub count: usize,

@@ -1,26 +1,30 @@
--- `history::columns::Columns::trains` meets its contract: before each turn the row has a slot for each of the columns passed. Assumes nothing.
-use mathlib.Core.Path.{◌≡◌, refl, sym, ◌∙◌}
-use native.Mathlib.Numerals.{add-one}
+-- `history::columns::Columns::trains` meets its contract. Assumes nothing.
+use Prim.Native.Nat.{ℕ, ◌<◌}
+use mathlib.Core.Path.{◌∙◌}
+use lib.ListN.{get_or}
+use Rattle.std.proofs.Common.{rules, tests}
+use Rattle.std.proofs.lemmas.Iterator.{YieldsList-from_slice}
+use Rattle.std.proofs.lemmas.List.{get_or_default}
+use Rattle.std.proofs.lemmas.Iterator.Adapters.{serves_from_places}
+use Rattle.std.proofs.lemmas.Iterator.Search.{all_from_yields_List}
 use native.Mathlib.Omega.{arith}
-use lib.ListN.{length}
-use Rattle.arith.specs.Lists.{every}
-use Rattle.arith.proofs.Lists.{every-not}
-use Rattle.history.specs.Training.{trains_of}
+use Rattle.arith.proofs.Elements.{all-every}
+use Rattle.param_mapping.specs.Mapping.{none}
+use Rattle.history.specs.Training.{covers_of, trains_of}
 use Rattle.history.proofs.columns.Columns.trains.Goals as goal
 
-pub loop-j-init : goal.loop-j-init
-unfolding every
-loop-j-init c = refl
-
-pub returns-then-not-covers : goal.returns-then-not-covers
-unfolding trains_of
-returns-then-not-covers c =
-    sym (every-not _ _ c.loop-j.j-index (omega arith) (sym c.covers.ensures ∙ c.if-not-covers.true))
-
-pub loop-j-preserved : goal.loop-j-preserved
-unfolding every
-loop-j-preserved c = rw (add-one, c.loop-j.invariant) (sym c.covers.ensures ∙ c.if-not-covers.false)
+pub all-requires-clause-callable : goal.all-requires-clause-callable
+all-requires-clause-callable c =
+    let s = c.args.self.now in
+    serves_from_places (YieldsList-from_slice s.places.now cc) (λ x q r. search rules) (λ x k l e.
+    let h : x.now < 20 = omega (arith, s.known k l, get_or_default s.places.now k x.now 0 l, e) in
+    (λ w p a b f. omega arith, λ w p a b f. omega arith))
 
 pub returns : goal.returns
 unfolding trains_of
-returns c = let e : c.loop-j.j-index ≡ length c.args.self.now.places.now = omega arith in rw (sym e) (sym c.loop-j.invariant)
+returns c =
+    let row = c.args.row.now in
+    let s = c.args.self.now in
+    let test = λ (j : ℕ). covers_of row.slots row.words.now (get_or s.mapping.now j none) in
+    all_from_yields_List test _ _ c.all.result c.all.ensures.ran (YieldsList-from_slice s.places.now cc) (λ x b q k. search (rules, tests))
+    ∙ all-every test 0 s.places.now
