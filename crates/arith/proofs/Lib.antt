@@ -2,6 +2,7 @@ mod Cases
 pub mod Tests
 pub mod Accepted
 pub mod Back
+pub mod Chunks
 pub mod HalfUnit
 pub mod Held
 pub mod Lists
