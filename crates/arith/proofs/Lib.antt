@@ -3,7 +3,7 @@ pub mod Elements
 pub mod Tests
 pub mod Accepted
 pub mod Back
-pub mod Every
+pub mod Chunks
 pub mod HalfUnit
 pub mod Held
 pub mod Lists

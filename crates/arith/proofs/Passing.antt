@@ -1,10 +1,14 @@
 -- Tests of a list's elements and of its places: all pass, the first that passes, how many pass. Assumes nothing.
-use Rattle.std.proofs.Common.{◌≡◌, ℕ, zero, suc, ◌+◌, ◌<◌, ◌≤◌, Bool, true, false, cond, ltb, List, length, get_or, take, sym, refl, ap, ◌∙◌, subst, ltb-false, add-one, arith, Some, None}
+use Rattle.std.proofs.Common.{◌≡◌, ℕ, zero, suc, ◌+◌, ◌<◌, ◌≤◌, Bool, true, false, cond, ltb, List, [], ◌∷◌, not, inl, inr, length, get_or, take, sym, refl, ap, ◌∙◌, subst, ltb-false, lt-ltb, add-one, arith, Some, None}
 use Rattle.std.specs.Option.{unwrap_or}
 use Rattle.std.proofs.lemmas.List.{take_all}
-use Rattle.std.proofs.lemmas.List.Folds.{list_all_more}
+use mathlib.Core.Bool.{◌||◌}
+use Rattle.std.proofs.lemmas.Bool.{cases_lt}
+use Rattle.std.proofs.lemmas.Bool.Decides.{nat_tests}
+use Rattle.std.proofs.lemmas.Option.{slice_get_within, get_or_from_slice_get, slice_get-get_or}
+use Rattle.std.proofs.lemmas.List.Folds.{list_all_more, find_at}
 use Rattle.std.proofs.lemmas.List.Sums.{position_or_len_is, count_by_more_no, count_by_more_yes}
-use Rattle.std.specs.List.{list_all, count_by, position, position_or_len}
+use Rattle.std.specs.List.{list_all, list_any, find, count_by, position, position_or_len}
 use lib.Ieee.Bits.{is_true}
 use Rattle.arith.specs.Lists.{every, place_of, places_of}
 use Rattle.arith.proofs.Lists.{place-most, place-before, place_found, places-next}
@@ -20,13 +24,14 @@ module _ {A : Type 0} (p : A → Bool) (xs : List A) (d : A) where
   pub all_every : (n : ℕ) → length xs ≡ n → list_all p xs ≡ every n (λ j. p (get_or xs j d))
   all_every n e = sym (ap (list_all p) (take_all n xs (omega arith))) ∙ all_front n (omega arith)
 
-  first_place : position_or_len p xs ≡ place_of (length xs) (λ j. p (get_or xs j d))
+  -- the first that passes
+  pub first_place : position_or_len p xs ≡ place_of (length xs) (λ j. p (get_or xs j d))
   first_place =
       let t : ℕ → Bool = λ j. p (get_or xs j d) in
       position_or_len_is p xs (place_of (length xs) t) d (place-most (length xs) t) (λ k h. place-before (length xs) t k h)
       (λ h. is_true (t (place_of (length xs) t)) (place_found (length xs) t h))
 
-  -- the first that passes, or how many there are
+  -- the same as an option
   pub position_place : (n : ℕ) → length xs ≡ n → unwrap_or (position p xs) n ≡ place_of n (λ j. p (get_or xs j d))
   position_place n e = subst (λ (k : ℕ). unwrap_or (position p xs) k ≡ place_of k (λ j. p (get_or xs j d))) e (go (ltb (position_or_len p xs) (length xs)) refl)
     where
@@ -53,3 +58,24 @@ module _ {A : Type 0} (p : A → Bool) (xs : List A) (d : A) where
   -- how many pass
   pub count_places : (n : ℕ) → length xs ≡ n → count_by p xs ≡ length (places_of n (λ j. p (get_or xs j d)))
   count_places n e = sym (ap (count_by p) (take_all n xs (omega arith))) ∙ count_front n (omega arith)
+
+-- one passes where there is a first
+pub any_first : {A : Type 0} (p : A → Bool) (xs : List A) → list_any p xs ≡ ltb (position_or_len p xs) (length xs)
+any_first p [] = refl
+any_first p (x ∷ xs) = by (p x) (any_first p xs)
+  where
+    by : (b : Bool) → list_any p xs ≡ ltb (position_or_len p xs) (length xs) → (b || list_any p xs) ≡ ltb (cond (not b) (1 + position_or_len p xs) 0) (suc (length xs))
+    by true e = sym (lt-ltb 0 (suc (length xs)) (omega arith))
+    by false e = e ∙ grind (arith, nat_tests)
+
+-- what `find` gives is the first that passes
+pub find_first : {A : Type 0} (p : A → Bool) (xs : List A) (x d : A) → find p xs ≡ Some x → (position_or_len p xs < length xs) × (get_or xs (position_or_len p xs) d ≡ x)
+find_first p xs x d e =
+    let f = sym (find_at p xs) ∙ e in
+    (slice_get_within xs (position_or_len p xs) x f, get_or_from_slice_get xs (position_or_len p xs) x d f)
+
+pub find_nothing : {A : Type 0} (p : A → Bool) (xs : List A) → A → find p xs ≡ None → length xs ≤ position_or_len p xs
+find_nothing p xs d e = elim (cases_lt (position_or_len p xs) (length xs)) [
+  | inl l ↦ (let k = sym (slice_get-get_or xs (position_or_len p xs) d l) ∙ sym (find_at p xs) ∙ e in absurd (cc))
+  | inr l ↦ l
+]

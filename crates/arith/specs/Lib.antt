@@ -1,5 +1,6 @@
 pub mod Bounds
 pub mod Choice
+pub mod Chunks
 pub mod Lists
 pub mod Ln2
 pub mod Outcome

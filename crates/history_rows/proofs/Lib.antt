@@ -1,6 +1,7 @@
 pub mod Border
 mod Cases
 pub mod First
+mod Lookup
 pub mod Parts
 pub mod Passed
 pub mod Recent

@@ -68,3 +68,12 @@ recent-part n h start e = take_all (length h - start) (drop start h) (rw (length
 pub recent-part-rows : (n : ℕ) (h : List ℕ) (start : ℕ) → start ≡ older_of n h → (length h - start) / width_of n ≡ row_count n (recent_of n h)
 unfolding row_count recent_of
 recent-part-rows n h start e = ap (λ (k : ℕ). (length h - k) / width_of n) e ∙ ap (λ (k : ℕ). k / width_of n) (sym (length-drop (older_of n h) h))
+
+-- the older words, by the rows above 100
+pub older_saturates : (n : ℕ) (h : List ℕ) → (length h / width_of n - 100) * width_of n ≡ older_of n h
+unfolding row_count recent_count
+older_saturates n h = ap (λ (k : ℕ). k * width_of n) (go (leb (length h / width_of n) 100) refl)
+  where
+    go : (b : Bool) → leb (length h / width_of n) 100 ≡ b → length h / width_of n - 100 ≡ length h / width_of n - cond b (length h / width_of n) 100
+    go true e = let l = leb-true (length h / width_of n) 100 e in omega arith
+    go false e = refl

@@ -1,3 +1,4 @@
+pub mod Chunks
 pub mod First
 pub mod Recent
 pub mod Rows

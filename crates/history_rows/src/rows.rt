@@ -1,93 +1,92 @@
-// One row of n slots.
-ghost use Rattle.std.specs.Prelude.{◌≡◌, not, ◌+◌, ◌*◌, ◌≤◌, ◌<◌, length};
-ghost use Rattle.arith.specs.Lists.{every};
-ghost use Rattle.history_rows.specs.Rows.{slot_at, width_of};
-ghost use Rattle.history_rows.specs.Tests.{row_ok, slots_ok, ids_once};
-ghost use Rattle.slots.specs.Slot.{same_id};
-ghost use Rattle.history_rows.specs.Slots.{slot_with, slot_place};
+// One row: three words, and then eight for each slot. A word past the end is 0.
+ghost use Rattle.std.specs.Prelude.{◌≡◌, not, drop, take, get_or};
+ghost use Rattle.std.specs.List.{list_all, list_any, find, position, enumerate_from};
+ghost use Rattle.std.specs.Option.{option_map};
+ghost use Rattle.std.specs.Slice.Iter.{chunks_exact_rest, chunks_exact_size};
+ghost use Rattle.history_rows.specs.Chunks.{slots_in};
+ghost use Rattle.history_rows.specs.Tests.{row_ok};
+ghost use Rattle.history_rows.specs.Slots.{slot_place};
+ghost use Rattle.slots.specs.Slot.{slot_ok, has_id, same_id};
+
+use std::slice::ChunksExact;
+
+// Word k.
+pub(crate) fn word(row: &[u64], k: usize) -> u64
+    ensures { result ≡ get_or row.now k 0 }
+{
+    row.get(k).copied().unwrap_or(0)
+}
+
+// Its slots in order.
+pub(crate) fn each_slot(row: &[u64]) -> ChunksExact<'_, u64>
+    ensures rest { chunks_exact_rest result ≡ drop 3 row.now }
+    ensures size { chunks_exact_size result ≡ 8 }
+{
+    row.get(3..).unwrap_or(&[]).chunks_exact(8)
+}
 
 // Whether its state and its objective are good.
 pub(crate) fn row_ok(row: &[u64]) -> bool
-    requires { 3 ≤ length row.now }
     ensures { result ≡ row_ok row.now }
 {
-    let objective = arith::float_of_word(row[2]);
-    row[1] <= 3 && (-4503599627370496.0 <= objective && objective <= 4503599627370496.0)
+    let state = word(row, 1);
+    let objective = arith::float_of_word(word(row, 2));
+    state <= 3 && (-4503599627370496.0 <= objective && objective <= 4503599627370496.0)
 }
 
 // Whether every slot is good.
-pub(crate) fn slots_ok(n: usize, row: &[u64]) -> bool
-    requires { (n ≤ 20) × (length row.now ≡ width_of n) }
-    ensures { result ≡ slots_ok n row.now }
+pub(crate) fn slots_ok(row: &[u64]) -> bool
+    ensures { result ≡ list_all slot_ok (slots_in row.now) }
 {
-    let mut s = 0;
-    while s < n {
-        let at = 3 + 8 * s;
-        if !slots::slot_ok(&row[at..at + 8]) {
-            return false;
-        }
-        s += 1;
-    }
-    true
+    each_slot(row).all(|slot| slots::slot_ok(slot))
 }
 
-// Whether no slot before slot a has its id.
-fn id_is_new(row: &[u64], a: usize) -> bool
-    requires { (a < 20) × (width_of a + 8 ≤ length row.now) }
-    ensures { result ≡ every a (λ b. not (same_id (slot_at row.now b) (slot_at row.now a))) }
+// Whether none of the first a slots has the id of a slot.
+fn id_is_new(row: &[u64], a: usize, slot: &[u64]) -> bool
+    ensures { result ≡ list_all (λ b. not (same_id b slot.now)) (take a (slots_in row.now)) }
 {
-    let own = 3 + 8 * a;
-    let mut b = 0;
-    while b < a {
-        let at = 3 + 8 * b;
-        if slots::same_id(&row[at..at + 8], &row[own..own + 8]) {
-            return false;
-        }
-        b += 1;
-    }
-    true
+    each_slot(row)
+        .take(a)
+        .all(|other| !slots::same_id(other, slot))
 }
 
 // Whether no id stands twice.
-pub(crate) fn ids_once(n: usize, row: &[u64]) -> bool
-    requires { (n ≤ 20) × (length row.now ≡ width_of n) }
-    ensures { result ≡ ids_once n row.now }
+pub(crate) fn ids_once(row: &[u64]) -> bool
+    ensures { result ≡ list_all (λ p. list_all (λ b. not (same_id b p.1)) (take p.0 (slots_in row.now))) (enumerate_from 0 (slots_in row.now)) }
 {
-    let mut a = 0;
-    while a < n {
-        if !id_is_new(row, a) {
-            return false;
-        }
-        a += 1;
-    }
-    true
+    each_slot(row)
+        .enumerate()
+        .all(|(a, slot)| id_is_new(row, a, slot))
 }
 
-// The place of the slot with that id, or n.
-pub(crate) fn slot_with(n: usize, row: &[u64], id: u64) -> usize
-    requires { (n ≤ 20) × (length row.now ≡ width_of n) }
-    ensures { result ≡ slot_with n row.now id }
+// Whether a slot has that id.
+pub(crate) fn has_slot(row: &[u64], id: u64) -> bool
+    ensures { result ≡ list_any (has_id id) (slots_in row.now) }
 {
-    let mut s = 0;
-    while s < n {
-        let at = 3 + 8 * s;
-        if slots::has_id(id, &row[at..at + 8]) {
-            return s;
-        }
-        s += 1;
-    }
-    s
+    each_slot(row).any(|slot| slots::has_id(id, slot))
 }
 
-// The same of words that may be no row, and then n.
+// The first slot with that id.
+pub(crate) fn slot_with(row: &[u64], id: u64) -> Option<&[u64]>
+    ensures { option_map (λ s. s.now) result ≡ find (has_id id) (slots_in row.now) }
+{
+    each_slot(row).find(|slot| slots::has_id(id, slot))
+}
+
+// The index of the slot with that id.
+fn index_of(row: &[u64], id: u64) -> Option<usize>
+    ensures { result ≡ position (has_id id) (slots_in row.now) }
+{
+    each_slot(row).position(|slot| slots::has_id(id, slot))
+}
+
+// The place of the slot with that id, of words that may be no row of n slots, n at most 20, and then n.
+#[tactic(auto, using(crate::proofs::Lookup::slot_place_is), unfolding(crate::specs::Slots::slot_place))]
 pub fn slot_place(n: usize, row: &[u64], id: u64) -> usize
     ensures { result ≡ slot_place n row.now id }
 {
-    if n > 20 {
+    if n > 20 || row.len() != 3 + 8 * n {
         return n;
     }
-    if row.len() != 3 + 8 * n {
-        return n;
-    }
-    slot_with(n, row, id)
+    index_of(row, id).unwrap_or(n)
 }

@@ -1,27 +1,13 @@
 -- `history_rows::rows::ids_once` meets its contract. Assumes nothing.
-use mathlib.Core.Path.{◌≡◌, refl, sym, ◌∙◌}
-use native.Mathlib.Numerals.{add-one}
-use native.Mathlib.Omega.{arith}
-use Rattle.arith.specs.Lists.{every}
-use Rattle.arith.proofs.Lists.{every-not}
-use Rattle.history_rows.specs.Tests.{ids_once}
-use borrow.Author.Rules.{rules}
+use Rattle.std.proofs.Common.{ℕ, List, not, take, drop, arith, rules, tests}
+use Rattle.std.proofs.lemmas.Iterator.Search.{all_from_yields_List}
+use Rattle.arith.proofs.Chunks.{YieldsList-from_chunks_exact}
+use Rattle.std.proofs.lemmas.Iterator.Consumers.{YieldsList-at, YieldsList-from_enumerate}
+use Rattle.std.specs.List.{list_all}
+use Rattle.slots.specs.Slot.{same_id}
+use Rattle.history_rows.specs.Chunks.{slots_in}
 use Rattle.history_rows.proofs.rows.ids_once.Goals as goal
 
-pub loop-a-init : goal.loop-a-init
-unfolding every
-loop-a-init c = (omega arith, refl)
-
-pub returns-then-not-id_is_new : goal.returns-then-not-id_is_new
-unfolding ids_once
-returns-then-not-id_is_new c =
-    sym (every-not _ _ c.loop-a.a c.loop-a-test.true (sym c.id_is_new.ensures ∙ c.if-not-id_is_new.true))
-
-pub loop-a-preserved : goal.loop-a-preserved
-unfolding every
-loop-a-preserved c =
-    (search rules, rw (add-one, c.loop-a.invariant.1) (sym c.id_is_new.ensures ∙ c.if-not-id_is_new.false))
-
 pub returns : goal.returns
-unfolding ids_once
-returns c = let e : c.loop-a.a ≡ c.args.n = omega arith in rw (sym e) (sym c.loop-a.invariant.1)
+returns c = all_from_yields_List (λ (p : ℕ × List ℕ). list_all (λ (b : List ℕ). not (same_id b p.1)) (take p.0 (slots_in c.args.row.now))) c.all.new.self _ c.all.result c.all.ensures.ran
+    (YieldsList-from_enumerate (YieldsList-at c.enumerate.ensures.source (YieldsList-from_chunks_exact 8 (drop 3 c.args.row.now) (omega arith) c.each_slot.ensures.size c.each_slot.ensures.rest)) c.enumerate.ensures.count) (λ x b q k. search (rules, tests))

@@ -1,0 +1,9 @@
+-- `history_rows::rows::has_slot` meets its contract. Assumes nothing.
+use Rattle.std.proofs.Common.{drop, arith, rules, tests}
+use Rattle.std.proofs.lemmas.Iterator.Search.{any_from_yields_List}
+use Rattle.arith.proofs.Chunks.{YieldsList-from_chunks_exact}
+use Rattle.slots.specs.Slot.{has_id}
+use Rattle.history_rows.proofs.rows.has_slot.Goals as goal
+
+pub returns : goal.returns
+returns c = any_from_yields_List (has_id c.args.id) c.any.new.self _ c.any.result c.any.ensures.ran (YieldsList-from_chunks_exact 8 (drop 3 c.args.row.now) (omega arith) c.each_slot.ensures.size c.each_slot.ensures.rest) (λ x b q k. search (rules, tests))
