@@ -5,6 +5,7 @@ ghost use Rattle.distribution.specs.Equal.{float_equal, int_equal, equal_of};
 use crate::limits::{all, int_eq};
 use crate::{Distribution, FloatDistribution, IntDistribution};
 
+#[tactic(auto, unfolding(crate::specs::Equal::float_equal))]
 fn float_equal(a: FloatDistribution, b: FloatDistribution) -> bool
     ensures { result ≡ float_equal a b }
 {
@@ -16,6 +17,7 @@ fn float_equal(a: FloatDistribution, b: FloatDistribution) -> bool
     ) && (!a.stepped || a.step == b.step)
 }
 
+#[tactic(auto, unfolding(crate::specs::Equal::int_equal))]
 fn int_equal(a: IntDistribution, b: IntDistribution) -> bool
     ensures { result ≡ int_equal a b }
 {
@@ -27,24 +29,14 @@ fn int_equal(a: IntDistribution, b: IntDistribution) -> bool
     ) && (!a.stepped || int_eq(a.step, b.step))
 }
 
+#[tactic(auto, unfolding(crate::specs::Equal::equal_of))]
 pub fn equal(a: Distribution, b: Distribution) -> bool
     ensures { result ≡ equal_of a b }
 {
-    match a {
-        Distribution::Float(f) => match b {
-            Distribution::Float(g) => float_equal(f, g),
-            Distribution::Int(_) => false,
-            Distribution::Categorical(_) => false,
-        },
-        Distribution::Int(i) => match b {
-            Distribution::Float(_) => false,
-            Distribution::Int(j) => int_equal(i, j),
-            Distribution::Categorical(_) => false,
-        },
-        Distribution::Categorical(c) => match b {
-            Distribution::Float(_) => false,
-            Distribution::Int(_) => false,
-            Distribution::Categorical(e) => c.n_choices == e.n_choices,
-        },
+    match (a, b) {
+        (Distribution::Float(f), Distribution::Float(g)) => float_equal(f, g),
+        (Distribution::Int(i), Distribution::Int(j)) => int_equal(i, j),
+        (Distribution::Categorical(c), Distribution::Categorical(e)) => c.n_choices == e.n_choices,
+        _ => false,
     }
 }

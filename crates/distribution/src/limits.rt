@@ -9,7 +9,7 @@ ghost use Rattle.distribution.specs.Shape.{within};
 pub fn all(a: bool, b: bool, c: bool, d: bool) -> bool
     ensures { result ≡ (a && b && c && d) }
 {
-    a && (b && (c && d))
+    a && b && c && d
 }
 
 // Whether x is at most b in magnitude.
@@ -37,7 +37,7 @@ pub(crate) fn int_eq(a: i64, b: i64) -> bool
 pub(crate) fn int_between(lo: i64, hi: i64, z: i64) -> bool
     ensures { result ≡ (le_z lo z && le_z z hi) }
 {
-    lo <= z && z <= hi
+    (lo..=hi).contains(&z)
 }
 
 // Whether z is at least the limit, where that is asked.

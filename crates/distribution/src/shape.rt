@@ -29,6 +29,7 @@ fn float_shape(d: FloatDistribution) -> bool
 }
 
 // A step of an int from 1 to 2^52; none is 0.
+#[tactic(auto, unfolding(crate::specs::Shape::int_step))]
 fn int_step(d: IntDistribution) -> bool
     ensures { result ≡ int_step d }
 {
@@ -39,6 +40,7 @@ fn int_step(d: IntDistribution) -> bool
     }
 }
 
+#[tactic(auto, unfolding(crate::specs::Shape::int_shape))]
 fn int_shape(d: IntDistribution) -> bool
     ensures { result ≡ int_shape d }
 {
@@ -50,13 +52,15 @@ fn int_shape(d: IntDistribution) -> bool
     ) && int_step(d)
 }
 
+#[tactic(auto, unfolding(crate::specs::Shape::categorical_shape))]
 fn categorical_shape(d: CategoricalDistribution) -> bool
     ensures { result ≡ categorical_shape d }
 {
-    1 <= d.n_choices && d.n_choices <= 0x1_0000_0000
+    (1..=0x1_0000_0000).contains(&d.n_choices)
 }
 
 // Whether a distribution keeps every rule of document 01.
+#[tactic(auto, unfolding(crate::specs::Shape::shape_of))]
 pub fn well_formed(d: Distribution) -> bool
     ensures { result ≡ shape_of d }
 {

@@ -11,6 +11,7 @@ fn float_taken(log_scale: bool, v: f64) -> bool
     float_within(9007199254740992.0, v) && float_from(log_scale, 1.1102230246251565e-16, v)
 }
 
+#[tactic(auto, unfolding(crate::specs::Taken::int_taken))]
 fn int_taken(log_scale: bool, v: i64) -> bool
     ensures { result ≡ int_taken log_scale v }
 {
@@ -18,32 +19,20 @@ fn int_taken(log_scale: bool, v: i64) -> bool
 }
 
 // Whether a value may stand in a history under a distribution.
+#[tactic(auto, unfolding(crate::specs::Taken::taken_of))]
 pub fn taken_rule(d: Distribution, v: ParamValue) -> bool
     ensures { result ≡ taken_of d v }
 {
-    match d {
-        Distribution::Float(f) => match v {
-            ParamValue::Float(x) => float_taken(f.log_scale, x),
-            ParamValue::Int(_) => false,
-            ParamValue::Categorical(_) => false,
-            ParamValue::Refused(_) => false,
-        },
-        Distribution::Int(i) => match v {
-            ParamValue::Float(_) => false,
-            ParamValue::Int(z) => int_taken(i.log_scale, z),
-            ParamValue::Categorical(_) => false,
-            ParamValue::Refused(_) => false,
-        },
-        Distribution::Categorical(c) => match v {
-            ParamValue::Float(_) => false,
-            ParamValue::Int(_) => false,
-            ParamValue::Categorical(k) => k < c.n_choices,
-            ParamValue::Refused(_) => false,
-        },
+    match (d, v) {
+        (Distribution::Float(f), ParamValue::Float(x)) => float_taken(f.log_scale, x),
+        (Distribution::Int(i), ParamValue::Int(z)) => int_taken(i.log_scale, z),
+        (Distribution::Categorical(c), ParamValue::Categorical(k)) => k < c.n_choices,
+        _ => false,
     }
 }
 
 // The value that a word is under a distribution's kind.
+#[tactic(auto, unfolding(crate::specs::Taken::value_of))]
 pub fn value_of_word(d: Distribution, w: u64) -> ParamValue
     ensures { result ≡ value_of d w }
 {

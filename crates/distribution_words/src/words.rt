@@ -11,10 +11,11 @@ use distribution::{
 fn flag_word(b: bool) -> u64
     ensures { result ≡ flag b }
 {
-    if b { 1 } else { 0 }
+    u64::from(b)
 }
 
 // The words of a distribution: kind, low, high, log, stepped, step.
+#[tactic(auto, unfolding(crate::specs::Words::words_of))]
 pub fn words_of(d: Distribution) -> [u64; 6]
     ensures { result ≡ words_of d }
 {
@@ -40,7 +41,8 @@ pub fn words_of(d: Distribution) -> [u64; 6]
 }
 
 // A distribution where it is well-formed.
-fn checked(d: Distribution) -> Option<Distribution>
+#[tactic(auto, unfolding(crate::specs::Words::checked_of))]
+fn checked(d: Distribution) -> Read
     ensures { result ≡ checked_of d }
 {
     if well_formed(d) { Some(d) } else { None }
@@ -53,7 +55,8 @@ fn flags(log: u64, stepped: u64) -> bool
     log <= 1 && stepped <= 1
 }
 
-fn read_float(low: u64, high: u64, log: u64, stepped: u64, step: u64) -> Option<Distribution>
+#[tactic(auto, unfolding(crate::specs::Words::float_read))]
+fn read_float(low: u64, high: u64, log: u64, stepped: u64, step: u64) -> Read
     ensures { result ≡ float_read low high log stepped step }
 {
     if flags(log, stepped) {
@@ -69,7 +72,8 @@ fn read_float(low: u64, high: u64, log: u64, stepped: u64, step: u64) -> Option<
     }
 }
 
-fn read_int(low: u64, high: u64, log: u64, stepped: u64, step: u64) -> Option<Distribution>
+#[tactic(auto, unfolding(crate::specs::Words::int_read))]
+fn read_int(low: u64, high: u64, log: u64, stepped: u64, step: u64) -> Read
     ensures { result ≡ int_read low high log stepped step }
 {
     if flags(log, stepped) {
@@ -85,7 +89,8 @@ fn read_int(low: u64, high: u64, log: u64, stepped: u64, step: u64) -> Option<Di
     }
 }
 
-fn read_categorical(low: u64, high: u64, log: u64, stepped: u64, step: u64) -> Option<Distribution>
+#[tactic(auto, unfolding(crate::specs::Words::categorical_read))]
+fn read_categorical(low: u64, high: u64, log: u64, stepped: u64, step: u64) -> Read
     ensures { result ≡ categorical_read low high log stepped step }
 {
     if all(high == 0, log == 0, stepped == 0, step == 0) {
@@ -96,26 +101,16 @@ fn read_categorical(low: u64, high: u64, log: u64, stepped: u64, step: u64) -> O
 }
 
 // The distribution that six words say, or that they are malformed.
-pub fn distribution_of(
-    kind: u64,
-    low: u64,
-    high: u64,
-    log: u64,
-    stepped: u64,
-    step: u64,
-) -> Option<Distribution>
+#[tactic(auto, unfolding(crate::specs::Words::read_of))]
+pub fn distribution_of(kind: u64, low: u64, high: u64, log: u64, stepped: u64, step: u64) -> Read
     ensures { result ≡ read_of kind low high log stepped step }
 {
-    if kind == 1 {
-        return read_float(low, high, log, stepped, step);
+    match kind {
+        1 => read_float(low, high, log, stepped, step),
+        2 => read_int(low, high, log, stepped, step),
+        3 => read_categorical(low, high, log, stepped, step),
+        _ => Read::Malformed,
     }
-    if kind == 2 {
-        return read_int(low, high, log, stepped, step);
-    }
-    if kind == 3 {
-        return read_categorical(low, high, log, stepped, step);
-    }
-    None
 }
 
 // A well-formed distribution and its six words say the same.
