@@ -4,6 +4,7 @@ pub mod Tests
 pub mod Accepted
 pub mod Back
 pub mod Chunks
+pub mod Every
 pub mod HalfUnit
 pub mod Held
 pub mod Lists

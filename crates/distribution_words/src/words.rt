@@ -42,7 +42,7 @@ pub fn words_of(d: Distribution) -> [u64; 6]
 
 // A distribution where it is well-formed.
 #[tactic(auto, unfolding(crate::specs::Words::checked_of))]
-fn checked(d: Distribution) -> Read
+fn checked(d: Distribution) -> Option<Distribution>
     ensures { result ≡ checked_of d }
 {
     if well_formed(d) { Some(d) } else { None }
@@ -56,7 +56,7 @@ fn flags(log: u64, stepped: u64) -> bool
 }
 
 #[tactic(auto, unfolding(crate::specs::Words::float_read))]
-fn read_float(low: u64, high: u64, log: u64, stepped: u64, step: u64) -> Read
+fn read_float(low: u64, high: u64, log: u64, stepped: u64, step: u64) -> Option<Distribution>
     ensures { result ≡ float_read low high log stepped step }
 {
     if flags(log, stepped) {
@@ -73,7 +73,7 @@ fn read_float(low: u64, high: u64, log: u64, stepped: u64, step: u64) -> Read
 }
 
 #[tactic(auto, unfolding(crate::specs::Words::int_read))]
-fn read_int(low: u64, high: u64, log: u64, stepped: u64, step: u64) -> Read
+fn read_int(low: u64, high: u64, log: u64, stepped: u64, step: u64) -> Option<Distribution>
     ensures { result ≡ int_read low high log stepped step }
 {
     if flags(log, stepped) {
@@ -90,7 +90,7 @@ fn read_int(low: u64, high: u64, log: u64, stepped: u64, step: u64) -> Read
 }
 
 #[tactic(auto, unfolding(crate::specs::Words::categorical_read))]
-fn read_categorical(low: u64, high: u64, log: u64, stepped: u64, step: u64) -> Read
+fn read_categorical(low: u64, high: u64, log: u64, stepped: u64, step: u64) -> Option<Distribution>
     ensures { result ≡ categorical_read low high log stepped step }
 {
     if all(high == 0, log == 0, stepped == 0, step == 0) {
@@ -102,14 +102,14 @@ fn read_categorical(low: u64, high: u64, log: u64, stepped: u64, step: u64) -> R
 
 // The distribution that six words say, or that they are malformed.
 #[tactic(auto, unfolding(crate::specs::Words::read_of))]
-pub fn distribution_of(kind: u64, low: u64, high: u64, log: u64, stepped: u64, step: u64) -> Read
+pub fn distribution_of(kind: u64, low: u64, high: u64, log: u64, stepped: u64, step: u64) -> Option<Distribution>
     ensures { result ≡ read_of kind low high log stepped step }
 {
     match kind {
         1 => read_float(low, high, log, stepped, step),
         2 => read_int(low, high, log, stepped, step),
         3 => read_categorical(low, high, log, stepped, step),
-        _ => Read::Malformed,
+        _ => None,
     }
 }
 
