@@ -9,6 +9,7 @@ ghost use Rattle.factor.specs.Cholesky.{columns_of, factor_of, rest_of, positive
 use crate::{Factor, place};
 
 // a less the products of the rows i and j before column j.
+// Kept: this loop, next's and unknown's read other places each, in one line; closures for the places are longer.
 #[tactic(auto, unfolding(crate::specs::Triangle::less_of))]
 fn rest(l: &[f64; 5050], a: f64, i: usize, j: usize) -> f64
     requires { (i < 100) × (j ≤ i) }
@@ -24,6 +25,7 @@ fn rest(l: &[f64; 5050], a: f64, i: usize, j: usize) -> f64
 }
 
 // The factor's row i before the diagonal, written behind the rows before it.
+// Kept: a clause says what is written, not a struct's ghost field: a refused pivot leaves row i half written.
 fn left(l: &mut [f64; 5050], a: &[f64; 5050], i: usize)
     requires { (i < 100) × (l.old ≡ padded 5050 (rows_of (factor_of (entry a.now)) i)) }
     ensures { l.new ≡ padded 5050 (rows_of (factor_of (entry a.now)) i ++ list_of (factor_of (entry a.now) i) i) }

@@ -39,6 +39,7 @@ impl<'a> Table<'a> {
     }
 
     // The sum of the squares of its distances from m.
+    // Kept: a loop of its own; one function of a closure for the term has a contract longer than both loops.
     #[tactic(auto, unfolding(arith::specs::Sums::sum_over))]
     fn column_squares(&self, j: usize, m: f64) -> f64
         requires { j < self.now.d }

@@ -48,6 +48,7 @@ fn step(given: bool, d: DimensionInfo, u: f64, word: u64) -> RandomDraw
 }
 
 // The values of k dimensions.
+// Kept: given beside the point, as walk_of has them; an Option adds a case to each clause.
 pub(crate) fn walk(
     given: bool,
     point: [f64; 20],
