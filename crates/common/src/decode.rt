@@ -26,8 +26,7 @@ fn is_inside(b: InternalBounds, x: f64) -> bool
 {
     match b {
         InternalBounds::Ends(lo, hi) => lo - 1.0 <= x && x <= hi + 1.0,
-        InternalBounds::Absent => false,
-        InternalBounds::Refused(_) => false,
+        InternalBounds::Absent | InternalBounds::Refused(_) => false,
     }
 }
 
