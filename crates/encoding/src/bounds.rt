@@ -16,10 +16,15 @@ pub(crate) fn scale(log_scale: bool, x: f64) -> Result<f64, Refusal>
 fn pair(lo: Result<f64, Refusal>, hi: Result<f64, Refusal>) -> InternalBounds
     ensures { result ≡ pair_of lo hi }
 {
-    Ok(Some((lo?, hi?)))
+    match (lo, hi) {
+        (Outcome::Value(a), Outcome::Value(b)) => InternalBounds::Ends(a, b),
+        (Outcome::Refused(n), _) => InternalBounds::Refused(n),
+        (_, Outcome::Refused(n)) => InternalBounds::Refused(n),
+    }
 }
 
 // The ends of a well-formed distribution.
+#[tactic(auto, unfolding(crate::specs::Bounds::ends_of))]
 pub fn ends(d: Distribution) -> InternalBounds
     ensures { result ≡ ends_of d }
 {
@@ -34,6 +39,7 @@ pub fn ends(d: Distribution) -> InternalBounds
 }
 
 // The ends of any distribution: 11 where it is malformed.
+#[tactic(auto, unfolding(crate::specs::Bounds::bounds_of))]
 pub fn internal_bounds(d: Distribution) -> InternalBounds
     ensures { result ≡ bounds_of d }
 {

@@ -55,12 +55,6 @@ product-fits c = subst (SFits w64) (sym (λ i. value c i *ℤ step c.before i)) 
 product : (c : After-whole_number-r) → to_z w64 (of_z w64 (to_z w64 (of_z w64 c.whole_number-r.result.value) *ℤ to_z w64 (of_z w64 c.args.step))) ≡ c.whole_number-r.result.value *ℤ c.args.step
 product c = to_z-of_z w64 _ (product-fits c) ∙ (λ i. value c i *ℤ step c.before i)
 
-pub overflow_sub-high : goal.overflow_sub-high
-overflow_sub-high c = subst (SFits w64) (sym (difference (goal.at.overflow_sub-high c).Start)) (steps.span_fits _ _ _ c.requires)
-
-pub nonzero_div-high : goal.nonzero_div-high
-nonzero_div-high c = (positive (goal.at.nonzero_div-high c).Start, subst (SFits w64) (sym (quotient (goal.at.nonzero_div-high c).Start)) (steps.steps-fit _ _ _ c.requires))
-
 pub overflow_mul-k : goal.overflow_mul-k
 overflow_mul-k c = product-fits (goal.at.overflow_mul-k c).After-whole_number-r
 
