@@ -35,8 +35,8 @@ fn is_inside(b: InternalBounds, x: f64) -> bool
     ensures { result ≡ inside b x }
 {
     match b {
-        InternalBounds::Ends(lo, hi) => lo - 1.0 <= x && x <= hi + 1.0,
-        InternalBounds::Absent | InternalBounds::Refused(_) => false,
+        Ok(ends) => is_between(ends, x),
+        Err(_) => false,
     }
 }
 

@@ -16,11 +16,7 @@ pub(crate) fn scale(log_scale: bool, x: f64) -> Result<f64, Refusal>
 fn pair(lo: Result<f64, Refusal>, hi: Result<f64, Refusal>) -> InternalBounds
     ensures { result ≡ pair_of lo hi }
 {
-    match (lo, hi) {
-        (Outcome::Value(a), Outcome::Value(b)) => InternalBounds::Ends(a, b),
-        (Outcome::Refused(n), _) => InternalBounds::Refused(n),
-        (_, Outcome::Refused(n)) => InternalBounds::Refused(n),
-    }
+    Ok(Some((lo?, hi?)))
 }
 
 // The ends of a well-formed distribution.
