@@ -1,10 +1,8 @@
 mod Cases
-pub mod Elements
 pub mod Tests
 pub mod Accepted
 pub mod Back
 pub mod Chunks
-pub mod Every
 pub mod HalfUnit
 pub mod Held
 pub mod Lists
