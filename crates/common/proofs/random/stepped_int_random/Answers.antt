@@ -1,6 +1,5 @@
 -- `common::random::stepped_int_random` meets its contract: the steps drawn stay between the ends (`Steps.antt`). Assumes nothing.
 use mathlib.Core.Path.{◌≡◌, ◌∙◌, sym, ap, subst}
-use Prim.Native.Nat.{◌<◌}
 use lib.IntN.{ℤ, pos, ◌+ℤ◌, ◌-ℤ◌, ◌*ℤ◌}
 use lib.Signed.{quot_z}
 use mir.Syntax.{w64}
@@ -35,9 +34,6 @@ quotient : (c : Start) → quot_z (to_z w64 (of_z w64 (to_z w64 (of_z w64 c.args
 quotient c =
     (λ i. quot_z ((ap (λ (z : ℤ). to_z w64 (of_z w64 z)) (difference c) ∙ to_z-of_z w64 _ (steps.span_fits _ _ _ c.requires) ∙ sym (steps.span-is _ _ _ c.requires)) i) (step c i))
     ∙ steps.steps-is c.args.low c.args.high c.args.step c.requires
-
-positive : (c : Start) → 0 < of_z w64 c.args.step
-positive c = let n = steps.step_is c.args.low c.args.high c.args.step c.requires in subst (λ (z : ℤ). 0 < of_z w64 z) (sym n.1) n.2
 
 -- the number of steps drawn
 drawn : (c : After-whole_number-r) → c.whole_number-r.result ≡ whole_draw_of c.args.w (pos 0) (pos (steps.steps c.args.low c.args.high c.args.step c.requires))
