@@ -17,3 +17,4 @@ pub mod Whole
 pub mod Within
 pub mod WordFacts
 pub mod Zero
+pub mod Eights
