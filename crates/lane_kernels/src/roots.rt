@@ -91,13 +91,7 @@ fn guess(x: f64) -> f64 {
 
 // A guess at each of eight roots.
 fn guesses(r_sq: &[f64; 8]) -> [f64; 8] {
-    let mut out = [0.0; 8];
-    let mut p = 0;
-    while p < 8 {
-        out[p] = guess(r_sq[p]);
-        p += 1;
-    }
-    out
+    std::array::from_fn(|p| guess(r_sq[p]))
 }
 
 // The scaled roots of eight squared distances.
@@ -105,11 +99,5 @@ pub(crate) fn scaled_roots(r_sq: &[f64; 8]) -> [f64; 8]
     ensures { result ≡ eight_of (λ (p : ℕ). scaled_root_of (get_or r_sq.now p nan)) }
 {
     let near = guesses(r_sq);
-    let mut out = [0.0; 8];
-    let mut p = 0;
-    while p < 8 {
-        out[p] = 2.236213562373095 * root(r_sq[p], near[p]);
-        p += 1;
-    }
-    out
+    std::array::from_fn(|p| 2.236213562373095 * root(r_sq[p], near[p]))
 }

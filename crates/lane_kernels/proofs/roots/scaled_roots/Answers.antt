@@ -1,24 +1,9 @@
--- `lane_kernels::roots::scaled_roots` meets its contract: before each turn the array holds the lanes passed. Assumes nothing.
-use mathlib.Core.Path.{refl}
-use native.Mathlib.Numerals.{add-one}
-use native.Mathlib.Omega.{arith}
+use Rattle.std.proofs.Common.{arith}
 use lib.Ieee.{of_bits}
-use Rattle.arith.specs.Lists.{grown}
-use Rattle.arith.proofs.Lists.{grown-set}
 use Rattle.kernel.specs.Matern.{scaled_root_of}
-use Rattle.lanes.proofs.Rows.{eight-all}
-use borrow.Author.Rules.{rules}
+use Rattle.arith.proofs.Eights.{eight_floats}
 use Rattle.lane_kernels.proofs.roots.scaled_roots.Goals as goal
 
-pub loop-p-init : goal.loop-p-init
-unfolding grown of_bits
-loop-p-init c = (omega arith, refl)
-
-pub loop-p-preserved : goal.loop-p-preserved
-unfolding scaled_root_of of_bits
-loop-p-preserved c =
-    let l = c.loop-p in
-    (search rules, rw (c.root.ensures, l.invariant.1, add-one l.p) (grown-set 8 _ l.p (omega arith)))
-
 pub returns : goal.returns
-returns c = rw c.loop-p.invariant.1 (eight-all _ _ (omega arith))
+unfolding scaled_root_of of_bits
+returns c = grind (arith, eight_floats)
