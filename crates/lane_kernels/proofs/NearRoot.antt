@@ -7,7 +7,7 @@ use native.Mathlib.Numerals.{add-one}
 use native.Mathlib.Omega.{arith}
 use Rattle.root.specs.RootParts.{Near, Pattern}
 use Rattle.root.proofs.RootValue.{pattern-even, pattern-odd}
-use Rattle.root.proofs.RootWhole.{lo, hi, product_is}
+use Rattle.root.proofs.RootWhole.{lo, hi, part-bounds, product_is}
 
 -- the product before it
 before : (q : ℕ) → 0 < q → q * (q + 1) ≡ (q - 1) * (q - 1 + 1) + 2 * q
@@ -53,3 +53,13 @@ module _ (d e q : ℕ) (lo : 2 ^ 52 ≤ d) (hi : d < 2 ^ 53) (P : 0 < e) (E : e 
 
 pub no_more : (d k : ℕ) → k ≤ 1 → d * k ≤ d
 no_more d k h = rw (mul-one d) at (mul-le-mul_left d h)
+
+-- how large the products of a root's two parts are
+pub root_parts : (q : ℕ) → q ≤ 2 ^ 53 → q / 134217728 * (q % 134217728) ≤ 2 ^ 53
+root_parts q h = (part-bounds q h).0
+
+pub root_low : (q : ℕ) → q ≤ 2 ^ 53 → q % 134217728 * (q % 134217728) < 2 ^ 54
+root_low q h = (part-bounds q h).1
+
+pub root_high : (q : ℕ) → q ≤ 2 ^ 53 → q / 134217728 * (q / 134217728) ≤ 2 ^ 52
+root_high q h = (part-bounds q h).2

@@ -8,6 +8,7 @@ ghost use Rattle.kernel.specs.Matern.{scaled_root_of};
 ghost use Rattle.lanes.specs.Rows.{eight_of};
 
 // True only where q is the whole number nearest to the root of nh * 2^54 + nl: q * (q + 1) less it is from 0 to 2 q - 1. q is cut at bit 27.
+#[tactic(auto, using(crate::proofs::NearRoot::root_parts, crate::proofs::NearRoot::root_low, crate::proofs::NearRoot::root_high))]
 fn is_nearest(q: u64, nh: u64, nl: u64) -> bool
     requires { (0 < q) × (q ≤ 2 ^ 53) }
     ensures { result ≡ true → Near (nh * 2 ^ 54 + nl) q }
@@ -30,6 +31,7 @@ fn is_nearest(q: u64, nh: u64, nl: u64) -> bool
 }
 
 // True only where r is the pattern of the root of d * 2^(e - 1075).
+#[tactic(auto, using(crate::proofs::NearRoot::no_more))]
 fn is_root(d: u64, e: u64, r: u64) -> bool
     requires { (2 ^ 52 ≤ d) × (d < 2 ^ 53) × (0 < e) × (e < 2047) }
     ensures { result ≡ true → Pattern d e r }

@@ -16,6 +16,3 @@ loop-j-preserved c =
     let g = c.args in
     let j = c.loop-j.j in
     rw (add-one j) (summed-more j (distance_term g.points.now g.x.now g.d g.lengthscales.now g.i) _ c.loop-j.s c.squares-s.result (λ p h. refl) c.loop-j.invariant c.squares-s.ensures)
-
-pub returns : goal.returns
-returns c = let e : c.loop-j.j ≡ c.args.d = omega arith in rw (c.loop-j.invariant, e)

@@ -23,6 +23,3 @@ loop-i-preserved c =
     let i = c.loop-i.i in
     let k = row-end i g.n g.d (omega arith) in
     rw (c.loop-i.invariant, add-one i) (row-set _ i c.decays.result (omega arith) (kernel-row g.points.now g.x.now g.d g.lengthscales.now i (omega arith) c.requires.3 _ c.decays.result c.distance-r_sq.ensures c.decays.ensures))
-
-pub returns : goal.returns
-returns c = let e : c.loop-i.i ≡ c.args.n = omega arith in rw (c.loop-i.invariant, e)

@@ -10,7 +10,7 @@ use Rattle.lanes.proofs.solving.forward.Goals as goal
 
 pub loop-i-init : goal.loop-i-init
 unfolding grown of_bits
-loop-i-init c = (refl)
+loop-i-init c = refl
 
 pub loop-i-preserved : goal.loop-i-preserved
 loop-i-preserved c =

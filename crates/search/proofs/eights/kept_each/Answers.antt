@@ -16,6 +16,3 @@ kept-s-requires c = ((c.requires.1 c.loop-p.p (omega arith)).0, search rules)
 pub loop-p-preserved : goal.loop-p-preserved
 unfolding kept_each_of
 loop-p-preserved c = let l = c.loop-p in rw (c.kept-s.ensures, l.invariant, add-one l.p)
-
-pub returns : goal.returns
-returns c = let e : c.loop-p.p ≡ c.args.k = omega arith in rw (c.loop-p.invariant, e)

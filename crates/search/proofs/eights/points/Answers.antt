@@ -21,6 +21,3 @@ loop-j-preserved c =
       rw (c.loop-j.invariant.0, add-one j, column-values w c.loop-j.at j _ c.requires.1 c.loop-j.invariant.1 c.column.ensures) (grown-filled-set zero_row 20 _ j (omega arith)),
       rw (add-one j) (column-next w c.loop-j.at j _ c.requires.1 c.loop-j.invariant.1 c.column.ensures),
     )
-
-pub returns : goal.returns
-returns c = let e : c.loop-j.j ≡ c.args.d = omega arith in rw (c.loop-j.invariant.0, e)

@@ -18,6 +18,3 @@ loop-i-preserved c =
     let g = c.args in
     let m = model_of g.m in
     (search rules, rw (c.some_candidates-s.ensures, l.invariant.1) (advance-add m l.i k g.start), rw c.some_candidates-s.ensures (advance-nonzero m k l.s l.invariant.2))
-
-pub returns : goal.returns
-returns c = let e : c.loop-i.i ≡ c.args.candidates = omega arith in rw (c.loop-i.invariant.1, e)

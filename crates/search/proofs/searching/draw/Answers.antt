@@ -32,6 +32,3 @@ loop-j-preserved c =
     let w = c.args.word in
     let e = c.unit_float-u.ensures ∙ ap unit_draw_of l.invariant.1 ∙ unit-step l.j w (nonzero (goal.at.loop-j-preserved c).Start) in
     (rw (e, l.invariant.0, add-one l.j) (grown-set 20 (λ xs j. unit_of (moved_of (suc j) w)) l.j (omega arith)), rw (e, add-one l.j))
-
-pub returns : goal.returns
-returns c = let e : c.loop-j.j ≡ c.args.d = omega arith in rw (c.loop-j.invariant.0, c.loop-j.invariant.1, e)
