@@ -19,3 +19,4 @@ mod StdFloat
 pub mod Within
 pub mod WordFacts
 pub mod Zero
+pub mod Eights

@@ -8,10 +8,6 @@ use Rattle.arith.specs.Lists.{list_of, padded}
 use Rattle.arith.proofs.Lists.{grown-at, grown-length, grown-read, grown-filled-set, filled_at, filled-length, list_same, eight-filled, filled-past}
 use Rattle.lanes.specs.Rows.{cell, eight_of, lanes_of, rows_of, zero_row}
 
--- a row that is made whole
-pub eight-all : (f : ℕ → Float) (p : ℕ) → p ≡ 8 → padded 8 (list_of f p) ≡ eight_of f
-eight-all f p e = eight-filled (of_bits binary64 0) f p e
-
 -- lane p of a row
 pub eight-at : (f : ℕ → Float) {r : List Float} → r ≡ eight_of f → (p : ℕ) → p < 8 → get_or r p nan ≡ f p
 eight-at f e p h = ap (λ (x : List Float). get_or x p nan) e ∙ grown-at (λ xs i. f i) 8 p h
