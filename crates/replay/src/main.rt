@@ -3,7 +3,6 @@
 #![tactic(auto)]
 
 use std::io::Read;
-use word_text::Parsed;
 
 // The length in the line before a text: sixteen digits and a newline.
 fn next_length(rt: HostRuntime) -> Option<u64> {
@@ -12,10 +11,7 @@ fn next_length(rt: HostRuntime) -> Option<u64> {
     let [digits @ .., b'\n'] = &line[..] else {
         return None;
     };
-    match word_text::parse(digits) {
-        Parsed::Word(len) => Some(len),
-        Parsed::Malformed => None,
-    }
+    word_text::parse(digits)
 }
 
 // Each text in turn. A proved loop has to end: no list of texts uses up these turns.
