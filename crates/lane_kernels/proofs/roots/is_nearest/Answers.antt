@@ -1,10 +1,7 @@
 -- `lane_kernels::roots::is_nearest` meets its contract. Assumes nothing.
-use mathlib.Core.Path.{sym}
-use mathlib.Core.Bool.{true≢false}
 use native.Mathlib.Nat.{le_trans}
 use native.Mathlib.Omega.{arith}
 use borrow.Author.Tests.{ltb-true}
-use Rattle.root.proofs.RootWhole.{part-bounds}
 use Rattle.lane_kernels.proofs.NearRoot.{near_by}
 use Rattle.lane_kernels.proofs.roots.is_nearest.Goals as goal
 

@@ -1,10 +1,9 @@
 -- `lane_kernels::roots::is_root` meets its contract. Assumes nothing.
-use mathlib.Core.Path.{◌≡◌, sym, subst}
-use mathlib.Core.Bool.{true≢false}
-use Prim.Native.Nat.{ℕ, ◌+◌, ◌-◌, ◌*◌, ◌/◌, ◌%◌}
+use mathlib.Core.Path.{◌≡◌, subst}
+use Prim.Native.Nat.{ℕ, ◌+◌, ◌-◌, ◌*◌, ◌/◌}
 use native.Mathlib.Omega.{arith}
 use Rattle.root.specs.RootParts.{Pattern}
-use Rattle.lane_kernels.proofs.NearRoot.{near-pattern, no_more}
+use Rattle.lane_kernels.proofs.NearRoot.{near-pattern}
 use Rattle.lane_kernels.proofs.roots.is_root.Goals as goal
 
 pub returns-then-q-le9007199254740992 : goal.returns-then-q-le9007199254740992
