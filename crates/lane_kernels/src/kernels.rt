@@ -85,6 +85,7 @@ fn kernel_rows(
 }
 
 // The same: zeros over 100 rows or 20 columns, and where a list's length is another.
+#[tactic(auto, unfolding(crate::specs::Kernels::kernel_lanes_of))]
 pub fn kernel_vectors(
     points: &[[f64; 8]; 20],
     x: &[f64],

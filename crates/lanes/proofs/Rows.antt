@@ -3,9 +3,9 @@ use mathlib.Core.Path.{◌≡◌, ap, ◌∙◌}
 use mathlib.Core.List.{List, []}
 use Prim.Native.Nat.{ℕ, suc, ◌≤◌, ◌<◌}
 use lib.ListN.{length, get_or, set}
-use lib.Ieee.{Float, nan, binary64, of_bits}
-use Rattle.arith.specs.Lists.{list_of, padded}
-use Rattle.arith.proofs.Lists.{grown-at, grown-length, grown-read, grown-filled-set, filled_at, filled-length, list_same, eight-filled, filled-past}
+use lib.Ieee.{Float, nan}
+use Rattle.arith.specs.Lists.{list_of}
+use Rattle.arith.proofs.Lists.{grown-at, grown-length, grown-read, grown-filled-set, filled_at, filled-length, list_same, filled-past}
 use Rattle.lanes.specs.Rows.{cell, eight_of, lanes_of, rows_of, zero_row}
 
 -- lane p of a row

@@ -86,6 +86,7 @@ fn backward(l: &[f64; 5050], z: &[[f64; 8]; 100], n: usize) -> [[f64; 8]; 100]
 }
 
 // x with L Lᵀ x = b for each lane, of the first n rows: all zeros over 100 rows.
+#[tactic(auto, unfolding(crate::specs::Solving::solve_lanes_of))]
 pub fn solve(l: &[f64; 5050], b: &[[f64; 8]; 100], n: usize) -> [[f64; 8]; 100]
     ensures { result ≡ solve_lanes_of l.now b.now n }
 {

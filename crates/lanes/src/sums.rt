@@ -14,6 +14,7 @@ fn more(s: &[f64; 8], a: &[f64; 8], b: &[f64; 8]) -> [f64; 8]
 }
 
 // The dot products of the first n rows of a and b, lane by lane: zeros over 100 rows.
+#[tactic(auto, unfolding(crate::specs::Sums::dot_lanes_of))]
 pub fn dot(a: &[[f64; 8]; 100], b: &[[f64; 8]; 100], n: usize) -> [f64; 8]
     ensures { result ≡ dot_lanes_of a.now b.now n }
 {
@@ -36,6 +37,7 @@ fn more_by(s: &[f64; 8], a: &[f64; 8], v: f64) -> [f64; 8]
 }
 
 // The dot products of the first n rows of each lane of a and of one list b: zeros over 100 rows, or where b is shorter.
+#[tactic(auto, unfolding(crate::specs::Sums::dot_each_of))]
 pub fn dot_each(a: &[[f64; 8]; 100], b: &[f64], n: usize) -> [f64; 8]
     ensures { result ≡ dot_each_of a.now b.now n }
 {

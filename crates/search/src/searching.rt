@@ -27,6 +27,7 @@ pub(crate) fn draw(word: u64, d: usize) -> Candidate
 }
 
 // A point of d unit floats, at most 20; over 20 and a zero word are 11.
+#[tactic(auto, unfolding(crate::specs::Search::draw_point_of))]
 pub fn draw_point(d: usize, word: u64) -> Searched
     ensures { result ≡ draw_point_of d word }
 {

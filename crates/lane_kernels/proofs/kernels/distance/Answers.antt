@@ -1,7 +1,6 @@
 -- `lane_kernels::kernels::distance` meets its contract: before each turn each lane has the sum of the j columns passed. Assumes nothing.
-use mathlib.Core.Path.{◌≡◌, refl}
+use mathlib.Core.Path.{refl}
 use native.Mathlib.Numerals.{add-one}
-use native.Mathlib.Omega.{arith}
 use lib.Ieee.{of_bits}
 use Rattle.lane_kernels.specs.Kernels.{distance_term}
 use Rattle.lanes.proofs.Summed.{summed-none, summed-more}

@@ -1,5 +1,5 @@
 -- `lane_kernels::kernels::kernel_rows` meets its contract: before each turn the array holds the rows passed. Assumes nothing.
-use mathlib.Core.Path.{◌≡◌, refl}
+use mathlib.Core.Path.{refl}
 use native.Mathlib.Numerals.{add-one}
 use native.Mathlib.Omega.{arith}
 use lib.Ieee.{of_bits}

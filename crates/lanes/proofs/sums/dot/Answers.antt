@@ -2,16 +2,12 @@
 use mathlib.Core.Path.{◌≡◌, refl}
 use native.Mathlib.Numerals.{add-one}
 use native.Mathlib.Omega.{arith}
-use borrow.Author.Tests.{le-leb, lt-leb}
+use borrow.Author.Tests.{le-leb}
 use lib.Ieee.{binary64, mul, of_bits}
 use Rattle.lanes.specs.Rows.{cell}
 use Rattle.lanes.specs.Sums.{dot_lanes_of}
 use Rattle.lanes.proofs.Summed.{summed-none, summed-more}
 use Rattle.lanes.proofs.sums.dot.Goals as goal
-
-pub returns-then-n-gt100 : goal.returns-then-n-gt100
-unfolding dot_lanes_of of_bits
-returns-then-n-gt100 c = rw (lt-leb c.args.n 100 (omega arith))
 
 pub loop-i-init : goal.loop-i-init
 unfolding of_bits

@@ -2,21 +2,13 @@
 use mathlib.Core.Path.{◌≡◌, refl}
 use native.Mathlib.Numerals.{add-one}
 use native.Mathlib.Omega.{arith}
-use borrow.Author.Tests.{le-leb, lt-leb}
+use borrow.Author.Tests.{le-leb}
 use lib.ListN.{length, get_or}
 use lib.Ieee.{nan, binary64, mul, of_bits}
 use Rattle.lanes.specs.Rows.{cell}
 use Rattle.lanes.specs.Sums.{dot_each_of}
 use Rattle.lanes.proofs.Summed.{summed-none, summed-more}
 use Rattle.lanes.proofs.sums.dot_each.Goals as goal
-
-pub returns-then-n-gt100 : goal.returns-then-n-gt100
-unfolding dot_each_of of_bits
-returns-then-n-gt100 c = rw (lt-leb c.args.n 100 (omega arith))
-
-pub returns-then-n-b : goal.returns-then-n-b
-unfolding dot_each_of of_bits
-returns-then-n-b c = let g = c.args in rw (le-leb g.n 100 (omega arith), lt-leb g.n (length g.b.now) (omega arith))
 
 pub loop-i-init : goal.loop-i-init
 unfolding of_bits

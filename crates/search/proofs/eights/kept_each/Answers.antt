@@ -1,5 +1,5 @@
 -- `search::eights::kept_each` meets its contract: before each turn s has seen the p points passed. Assumes nothing.
-use mathlib.Core.Path.{◌≡◌, refl}
+use mathlib.Core.Path.{refl}
 use native.Mathlib.Numerals.{add-one}
 use native.Mathlib.Omega.{arith}
 use Rattle.search.specs.Eights.{kept_each_of}

@@ -1,5 +1,5 @@
 -- `search::eights::points` meets its contract: before each turn the array holds the j coordinates passed, and the words have moved j times. Assumes nothing.
-use mathlib.Core.Path.{◌≡◌, refl}
+use mathlib.Core.Path.{refl}
 use native.Mathlib.Numerals.{add-one}
 use native.Mathlib.Omega.{arith}
 use lib.Ieee.{of_bits}

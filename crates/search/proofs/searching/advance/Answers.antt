@@ -1,5 +1,5 @@
 -- `search::searching::advance` meets its contract: before each turn s is the start advanced by i candidates. Assumes nothing.
-use mathlib.Core.Path.{◌≡◌, refl}
+use mathlib.Core.Path.{refl}
 use native.Mathlib.Omega.{arith}
 use Rattle.search.specs.Search.{advance_of}
 use Rattle.search.specs.Lent.{model_of}
