@@ -43,7 +43,3 @@ columns-few dims k = places-length k (λ j. continuous_of (dimension_at dims j).
 
 pub places-lent : (p : Places) (xs : List ℕ) → p ≡ places_in xs → take p.count p.at ≡ xs
 places-lent p xs e = rw e (filled-take 0 100 xs)
-
--- at most 100 of them are within their array
-pub places-fit : (p : Places) (xs : List ℕ) → p ≡ places_in xs → length xs ≤ 100 → (p.count ≤ 100) × (length p.at ≡ 100)
-places-fit p xs e h = rw e (h, filled-length 0 100 xs h)

@@ -30,14 +30,6 @@ part_length w r at h = length-take-le w (drop at r) (rw (length-drop at r) (omeg
 pub lent_length : (w : ℕ) (r : List ℕ) (at : ℕ) → at + w ≤ length r → length (take (at + w - at) (drop at r)) ≡ w
 lent_length w r at h = rw (part w r at) (part_length w r at h)
 
--- the first row, as the code lends it
-pub first_part : (w : ℕ) (r : List ℕ) → take (w - 0) r ≡ take w (drop (0 * w) r)
-first_part w r = rw (zero-mul w, sub-zero w)
-
--- word k of a part
-pub part_at : (w : ℕ) (r : List ℕ) (at k : ℕ) → k < w → get_or (take w (drop at r)) k 0 ≡ get_or r (at + k) 0
-part_at w r at k h = get_or-take w (drop at r) k 0 h ∙ get_or-drop at r k 0
-
 -- ---- a row's slots and a history's rows, as chunks
 
 pub slot_count : (n : ℕ) (row : List ℕ) → length row ≡ width_of n → length (slots_in row) ≡ n
