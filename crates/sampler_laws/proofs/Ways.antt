@@ -12,7 +12,8 @@ use Rattle.arith.proofs.Tests.{taken, by-test}
 use Rattle.distribution.specs.declared.Distribution.{Distribution}
 use Rattle.distribution_words.specs.Words.{read_of}
 use Rattle.common.specs.Random.{sample_random_of}
-use Rattle.history_rows.specs.Tests.{refusal_of}
+use Rattle.refusal.specs.Numbers.{number_of}
+use Rattle.history_rows.specs.Tests.{check_of}
 use Rattle.sampler_state.specs.declared.Sampler.{Sampler}
 use Rattle.sampler_state.specs.State.{trial_place, sampler_ok}
 use Rattle.sampler_state.proofs.Checked.{dimensions-few}
@@ -31,7 +32,7 @@ read_asked d = read_of d.kind d.low d.high d.log d.stepped d.step
 pub record Passed (s : Sampler) (d : Asked) (h : List ℕ) (r : Distribution) : Type 0 where
   pub ok : T (sampler_ok s)
   pub read : read_asked d ≡ Some r
-  pub history : refusal_of s.settings.slots h ≡ 0
+  pub history : number_of (check_of s.settings.slots h) ≡ 0
 
 -- an active sampler is itself with its discovery ended
 pub is-activated : (s : Sampler) → s.active ≡ true → activated s ≡ s
@@ -53,7 +54,7 @@ discovering s trial = go s.active
 pub data Refusing (s : Sampler) (d : Asked) (trial : ℕ) (h : List ℕ) : ℕ → Type 0 where
   malformed-sampler : sampler_ok s ≡ false → Refusing s d trial h 11
   malformed-asked : Refusing s d trial h 2
-  bad-history : (refusal_of s.settings.slots h ≡ 0 → ⊥) → Refusing s d trial h (refusal_of s.settings.slots h)
+  bad-history : (number_of (check_of s.settings.slots h) ≡ 0 → ⊥) → Refusing s d trial h (number_of (check_of s.settings.slots h))
   no-dimension : Refusing s d trial h 8
   no_place : 32 ≤ spot_of s trial → Refusing s d trial h 9
   no-values : (r : Distribution) → Passed s d h r → past_discovery s trial ≡ true → ((served_now s r trial h).number ≡ 0 → ⊥) → Refusing s d trial h (served_now s r trial h).number
@@ -139,7 +140,7 @@ module _ (s : Sampler) (d : Asked) (trial : ℕ) (h : List ℕ) (P : Sampled →
       asked : T (sampler_ok s) → (x : Option Distribution) → read_asked d ≡ x → P (asked_of s x trial h)
       asked o None q = no 2 malformed-asked
       asked o (Some r) q =
-          let n = refusal_of s.settings.slots h in
+          let n = number_of (check_of s.settings.slots h) in
           by-test P (eqb n 0) _ _ (λ z. served r (record { ok = o; read = q; history = eqb-true n 0 z })) (λ z. no n (bad-history (eqb-false n 0 z)))
 
 -- ---- a close

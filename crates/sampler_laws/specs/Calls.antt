@@ -8,7 +8,8 @@ use Rattle.common.specs.Random.{sample_random_of}
 use Rattle.settings.specs.declared.Settings.{Settings}
 use Rattle.dimensions.specs.declared.DimensionInfo.{DimensionInfo}
 use Rattle.dimensions.specs.Dimensions.{dimension_of}
-use Rattle.history_rows.specs.Tests.{refusal_of}
+use Rattle.refusal.specs.Numbers.{number_of}
+use Rattle.history_rows.specs.Tests.{check_of}
 use Rattle.proposal.specs.declared.Proposal.{Proposal}
 use Rattle.proposal.specs.Proposal.{compute_candidate_of}
 use Rattle.sampler_state.specs.declared.Place.{Place}
@@ -115,7 +116,7 @@ served_of s d trial h =
 -- "asked distribution malformed 2", then the history's number
 abbrev pub asked_of : Sampler → Option Distribution → ℕ → List ℕ → Sampled
 asked_of s None trial h = refused_of s 2
-asked_of s (Some d) trial h = cond (eqb (refusal_of s.settings.slots h) 0) (served_of s d trial h) (refused_of s (refusal_of s.settings.slots h))
+asked_of s (Some d) trial h = cond (eqb (number_of (check_of s.settings.slots h)) 0) (served_of s d trial h) (refused_of s (number_of (check_of s.settings.slots h)))
 
 unfoldable pub sample_of : Sampler → ℕ → ℕ → ℕ → ℕ → ℕ → ℕ → ℕ → List ℕ → Sampled
 unfolding sampler_ok served_of
