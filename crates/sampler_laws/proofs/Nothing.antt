@@ -67,9 +67,9 @@ stored_ok_lem (Distribution.Categorical d) (ParamValue.Refused v) r = r.taken
 -- ---- the numbers of histories
 
 -- no row is refused
-pub empty-accepted : (n : ℕ) → T (leb 1 n) → T (leb n 20) → number_of (check_of n []) ≡ 0
+pub empty-accepted : (n : ℕ) → T (leb 1 n) → T (leb n 20) → check_of n [] ≡ Ok tt
 empty-accepted n a b =
-    ap number_of (check-recent n [] (is_true (leb 1 n) a) (is_true (leb n 20) b) whole) ∙ ap (λ (m : ℕ). number_of (first_of (recent_tests n m (recent_of n [])))) none ∙ (unfold recent_tests every in refl)
+    check-recent n [] (is_true (leb 1 n) a) (is_true (leb n 20) b) whole ∙ ap (λ (m : ℕ). first_of (recent_tests n m (recent_of n []))) none ∙ (unfold recent_tests every in refl)
   where
     whole : whole_rows n [] ≡ true
     whole = unfold whole_rows in eq-eqb (0 % width_of n) 0 (zero-mod (width_of n))
@@ -114,13 +114,13 @@ refusal-small s h o =
 abbrev pub InRanges : List DimensionInfo → ℕ → Proposal → Type 0
 InRanges dims k c = (c.number ≡ 0) × ((j : ℕ) → j < k → T (stored_ok (dimension_at dims j).distribution (get_or c.values j empty_stored).value))
 
-module _ (settings : Settings) (dims : List DimensionInfo) (k word : ℕ) (g : Ready settings dims k word) (h : List ℕ) (r : number_of (check_of settings.slots h) ≡ 0) where
+module _ (settings : Settings) (dims : List DimensionInfo) (k word : ℕ) (g : Ready settings dims k word) (h : List ℕ) (r : check_of settings.slots h ≡ Ok tt) where
   abbrev view : View
   view = seen_of settings.slots settings.n_startup_trials dims k h
 
   number : number_of (asked_of settings.slots dims k h) ≡ 0
   unfolding asked_of
-  number = rw (is_true (dimensions_ok dims k) g.dimensions) r
+  number = rw (is_true (dimensions_ok dims k) g.dimensions, r)
 
   training : training_of settings.slots dims k h ≡ Ok view.training
   training = seen-training settings.slots settings.n_startup_trials dims k h number
@@ -141,14 +141,14 @@ module _ (settings : Settings) (dims : List DimensionInfo) (k word : ℕ) (g : R
       )
 
 -- the history that a call is served with is not refused where its own is not
-pub served-accepted : (s : Sampler) (h : List ℕ) → T (settings_ok s.settings) → number_of (check_of s.settings.slots h) ≡ 0 → number_of (check_of s.settings.slots (served_history s h)) ≡ 0
+pub served-accepted : (s : Sampler) (h : List ℕ) → T (settings_ok s.settings) → check_of s.settings.slots h ≡ Ok tt → check_of s.settings.slots (served_history s h) ≡ Ok tt
 served-accepted s h o r = go s.active
   where
-    go : (b : Bool) → number_of (check_of s.settings.slots (cond b h [])) ≡ 0
+    go : (b : Bool) → check_of s.settings.slots (cond b h []) ≡ Ok tt
     go true = r
     go false = empty-accepted s.settings.slots (slots-least s.settings o) (slots-most s.settings o)
 
-module _ (s : Sampler) (g : Well s) (h : List ℕ) (r : number_of (check_of s.settings.slots h) ≡ 0) where
+module _ (s : Sampler) (g : Well s) (h : List ℕ) (r : check_of s.settings.slots h ≡ Ok tt) where
   values_of : InRanges s.dimensions s.n_dims (compute_candidate_of s.settings s.dimensions s.n_dims s.word (served_history s h))
   values_of = values-made s.settings s.dimensions s.n_dims s.word (ready s g) (served_history s h) (served-accepted s h g.ok.settings r)
 

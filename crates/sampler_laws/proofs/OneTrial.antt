@@ -1,4 +1,5 @@
 -- What serving one trial does, by its three ways: the generator's moves, the place after it, its number, and how it sees a history. Assumes nothing.
+use Rattle.std.specs.Prelude.{Ok}
 use Prim.Native.Nat.{ℕ, ◌+◌, ◌-◌, ◌*◌, ◌≤◌, ◌<◌}
 use native.Mathlib.Omega.{arith}
 use mathlib.Core.Path.{◌≡◌, refl, sym, subst}
@@ -89,7 +90,7 @@ module _ (settings : Settings) (dims : List DimensionInfo) (k word : ℕ) (p : P
       (λ t e. rw t (compute-words settings dims k word h z.1 held e))
 
   -- with the parts of a well-formed sampler it is accepted, and the place after it is in range
-  pub serving-ranged : Ready settings dims k word → 1 ≤ k → number_of (check_of settings.slots h) ≡ 0 → (T (taken p) → T (progress_ok dims k p)) → (served.number ≡ 0) × T (progress_ok dims k served.place)
+  pub serving-ranged : Ready settings dims k word → 1 ≤ k → check_of settings.slots h ≡ Ok tt → (T (taken p) → T (progress_ok dims k p)) → (served.number ≡ 0) × T (progress_ok dims k served.place)
   serving-ranged g some r ok =
       by-serving (λ r. (r.number ≡ 0) × T (progress_ok dims k r.place)) (λ t l. (refl, further (ok (passed t)) l)) (λ t _. (refl, ok (passed t)))
       (λ _. let m = values-made settings dims k word g h r in
@@ -109,7 +110,7 @@ module _ (settings : Settings) (dims : List DimensionInfo) (k word : ℕ) (p : P
   answered = cond (taken p) (cond (ltb p.next_dim k) (dimension_at dims p.next_dim).distribution d) (dimension_at dims 0).distribution
 
   -- and the value is in its range
-  pub serving-valued : Ready settings dims k word → 1 ≤ k → number_of (check_of settings.slots h) ≡ 0 → (T (taken p) → T (progress_ok dims k p)) → Held d → T (shape_of d) → T (stored_ok answered served.value)
+  pub serving-valued : Ready settings dims k word → 1 ≤ k → check_of settings.slots h ≡ Ok tt → (T (taken p) → T (progress_ok dims k p)) → Held d → T (shape_of d) → T (stored_ok answered served.value)
   serving-valued g some r ok held shape =
       by-serving (λ r. T (stored_ok answered r.value)) (λ t l. rw (t, lt-ltb p.next_dim k l) (inside (ok (passed t)) l))
       (λ t l. rw (t, le-ltb p.next_dim k l) (stored_ok_lem d _ (random-ranged word d g.nonzero held shape)))

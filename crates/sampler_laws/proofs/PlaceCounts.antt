@@ -8,7 +8,7 @@ use native.Mathlib.Omega.{arith}
 use lib.Dec.{T, eqb, leb}
 use lib.ListN.{length}
 use lib.Ieee.Bits.{is_true}
-use borrow.Author.Tests.{eq-eqb, ne_eqb}
+use borrow.Author.Tests.{ne_eqb}
 use Rattle.arith.proofs.Tests.{taken as passed}
 use Rattle.distribution.specs.declared.Distribution.{Distribution}
 use Rattle.dimensions.specs.declared.DimensionInfo.{DimensionInfo}
@@ -111,7 +111,7 @@ only-full s d trial h =
     nine : {n : ℕ} → Refusing s d trial h n → n ≡ 9 → (taken_count s.places ≡ 32) × (trial_place s.places trial ≡ 32)
     nine (malformed-sampler x) e = absurd (omega arith)
     nine malformed-asked e = absurd (omega arith)
-    nine (bad-history x) e = absurd (history-other s.settings.slots h e)
+    nine (bad-history r x) e = absurd (history-other s.settings.slots h (ap number_of x ∙ e))
     nine no-dimension e = absurd (omega arith)
     nine (no_place l) e = no-spot s.places trial l
     nine (no-values r p q x) e =
@@ -119,10 +119,10 @@ only-full s d trial h =
         (λ _. candidate-other s.settings s.dimensions s.n_dims s.word (served_history s h)) e)
 
 ninth : (s : Sampler) (d : Asked) (r : Distribution) (trial : ℕ) (h : List ℕ)
-    → T (sampler_ok s) → read_asked d ≡ Some r → number_of (check_of s.settings.slots h) ≡ 0 → taken_count s.places ≡ 32 → trial_place s.places trial ≡ 32 → (call_of s (asks d trial h)).number ≡ 9
+    → T (sampler_ok s) → read_asked d ≡ Some r → check_of s.settings.slots h ≡ Ok tt → taken_count s.places ≡ 32 → trial_place s.places trial ≡ 32 → (call_of s (asks d trial h)).number ≡ 9
 unfolding sample_of served_of active_of
 ninth s d r trial h ok e n c p =
-    rw (is_true (sampler_ok s) ok, e, eq-eqb (number_of (check_of s.settings.slots h)) 0 n, taken-active s ok 0 (omega arith) (passed (all-taken s.places c 0 (omega arith))), full-no-spot s.places trial c p)
+    rw (is_true (sampler_ok s) ok, e, n, taken-active s ok 0 (omega arith) (passed (all-taken s.places c 0 (omega arith))), full-no-spot s.places trial c p)
 
 pub places-counted : PlacesCounted
 unfolding new_trial
