@@ -28,8 +28,9 @@ use Rattle.dimensions.specs.declared.DimensionInfo.{DimensionInfo}
 use Rattle.history.specs.declared.Training.{Training}
 use Rattle.history_view.specs.declared.View.{View}
 use Rattle.dimensions.specs.Dimensions.{dimension_at, columns_of}
-use Rattle.param_mapping.specs.Mapping.{number_of}
-use Rattle.history_view.specs.View.{view_of}
+use Rattle.refusal.specs.Numbers.{number_of}
+use Rattle.param_mapping.specs.Mapping.{asked_of}
+use Rattle.history_view.specs.View.{seen_of}
 use Rattle.settings.specs.declared.Settings.{Settings}
 use Rattle.settings.specs.Settings.{settings_ok}
 use Rattle.proposal.specs.declared.Point.{Point}
@@ -124,12 +125,12 @@ module _ (s : Settings) (dims : List DimensionInfo) (k w : ℕ) where
       nonzero : candidate_number s dims k w h ≡ 0 → w ≡ 0 → ⊥
       nonzero e z = by (settings_ok s) (unfold candidate_number in e)
         where
-          by : (b : Bool) → cond (b && not (eqb w 0)) (number_of s.slots dims k h) 11 ≡ 0 → ⊥
-          by true q = eleven (ap (λ (t : Bool). cond (not t) (number_of s.slots dims k h) 11) (sym (eq-eqb w 0 z)) ∙ q)
+          by : (b : Bool) → cond (b && not (eqb w 0)) (number_of (asked_of s.slots dims k h)) 11 ≡ 0 → ⊥
+          by true q = eleven (ap (λ (t : Bool). cond (not t) (number_of (asked_of s.slots dims k h)) 11) (sym (eq-eqb w 0 z)) ∙ q)
           by false q = eleven q
 
       go : (b : Bool) → eqb (candidate_number s dims k w h) 0 ≡ b
-          → (cond b (candidate_of s dims k w (view_of s.slots s.n_startup_trials dims k h)) (refused_proposal (candidate_number s dims k w h) w)).next
-          ≡ moved_of (cond b (candidate_of s dims k w (view_of s.slots s.n_startup_trials dims k h)) (refused_proposal (candidate_number s dims k w h) w)).drawn w
-      go true e = candidate-moves (view_of s.slots s.n_startup_trials dims k h) (nonzero (eqb-true (candidate_number s dims k w h) 0 e))
+          → (cond b (candidate_of s dims k w (seen_of s.slots s.n_startup_trials dims k h)) (refused_proposal (candidate_number s dims k w h) w)).next
+          ≡ moved_of (cond b (candidate_of s dims k w (seen_of s.slots s.n_startup_trials dims k h)) (refused_proposal (candidate_number s dims k w h) w)).drawn w
+      go true e = candidate-moves (seen_of s.slots s.n_startup_trials dims k h) (nonzero (eqb-true (candidate_number s dims k w h) 0 e))
       go false e = unfold moved_of in refl
