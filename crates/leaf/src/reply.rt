@@ -46,8 +46,8 @@ pub(crate) fn put_float(x: f64, results: &mut Results) -> Reply {
     put([arith::word_of_float(x)], results)
 }
 
-// The value of a function with a domain.
-pub(crate) fn outcome(o: Result<f64, Refusal>) -> Result<f64, Failure> {
+// What a function answers, or its refusal's number.
+pub(crate) fn outcome<T>(o: Result<T, Refusal>) -> Result<T, Failure> {
     match o {
         Ok(x) => Ok(x),
         Err(refusal) => Err(Failure::Refused(refusal.number())),
