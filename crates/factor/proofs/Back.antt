@@ -12,9 +12,8 @@ use lib.Seq.{take_all, take-suc, append_snoc, length-take-le, get_or_at, get_or-
 use lib.Ieee.{Float, nan, binary64, sub, mul, div}
 use Rattle.arith.specs.Lists.{padded}
 use Rattle.arith.proofs.Lists.{padded-at, padded-length}
-use Rattle.factor.specs.declared.Solved.{Solved}
 use Rattle.factor.specs.Triangle.{at, entry, less_of}
-use Rattle.factor.specs.Solve.{forward_of, backward_of, solve_of}
+use Rattle.factor.specs.Solve.{forward_of, backward_of, solution_of}
 use Rattle.factor.proofs.Triangle.{less-same}
 
 -- m unknowns are known
@@ -78,10 +77,5 @@ back-next l z x n m i v hz hi hx hv =
     rw (hv, hx, e, back-here 100 z xs i h) (ap (λ (s : Float). set y i (div binary64 s (entry l i i))) same ∙ back-set 100 z xs i h _)
 
 -- a solution fills its array
-pub solve-length : (l b : List Float) (n : ℕ) → length (solve_of l b n).x ≡ 100
-unfolding solve_of
-solve-length l b n = cond-length (leb n 100) refl
-  where
-    cond-length : (t : Bool) → leb n 100 ≡ t → length (cond {A = Solved} t (record { number = 0; x = padded 100 (backward_of l (forward_of l b n) n n) }) (record { number = 11; x = padded 100 [] })).x ≡ 100
-    cond-length true e = padded-length 100 (backward_of l (forward_of l b n) n n) (rw (back-length l (forward_of l b n) n n) (leb-true n 100 e))
-    cond-length false e = padded-length 100 [] (omega arith)
+pub solve-length : (l b : List Float) (n : ℕ) → n ≤ 100 → length (solution_of l b n) ≡ 100
+solve-length l b n h = padded-length 100 (backward_of l (forward_of l b n) n n) (rw (back-length l (forward_of l b n) n n) h)
