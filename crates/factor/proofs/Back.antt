@@ -1,12 +1,9 @@
 -- The array of the backward solution: the start of z, then the unknowns that are known, then zeros. Assumes nothing.
 use mathlib.Core.Path.{◌≡◌, refl, sym, ap, ◌∙◌}
-use mathlib.Core.Bool.{Bool, true, false, cond}
-use mathlib.Core.List.{List, [], ◌∷◌, ◌++◌, append-nil}
+use mathlib.Core.List.{List, ◌∷◌, ◌++◌, append-nil}
 use Prim.Native.Nat.{ℕ, zero, suc, ◌+◌, ◌-◌, ◌≤◌, ◌<◌}
 use native.Mathlib.Numerals.{add-one}
 use native.Mathlib.Omega.{arith}
-use borrow.Author.Tests.{leb-true}
-use lib.Dec.{leb}
 use lib.ListN.{length, get_or, set, take, length-append, length-take}
 use lib.Seq.{take_all, take-suc, append_snoc, length-take-le, get_or_at, get_or-append-add, set_at, set-append_left}
 use lib.Ieee.{Float, nan, binary64, sub, mul, div}
