@@ -1,10 +1,8 @@
 mod Cases
-pub mod Elements
 pub mod Tests
 pub mod Accepted
 pub mod Back
 pub mod Chunks
-pub mod Every
 pub mod HalfUnit
 pub mod Held
 pub mod Lists
@@ -21,3 +19,4 @@ mod StdFloat
 pub mod Within
 pub mod WordFacts
 pub mod Zero
+pub mod Eights

@@ -2,16 +2,18 @@
 use Rattle.std.proofs.Common.{◌≡◌, ℕ, zero, suc, ◌+◌, ◌<◌, ◌≤◌, Bool, true, false, cond, ltb, List, [], ◌∷◌, not, inl, inr, length, get_or, take, sym, refl, ap, ◌∙◌, subst, ltb-false, lt-ltb, add-one, arith, Some, None}
 use Rattle.std.specs.Option.{unwrap_or}
 use Rattle.std.proofs.lemmas.List.{take_all}
-use mathlib.Core.Bool.{◌||◌}
+use mathlib.Core.Bool.{◌||◌, ◌&&◌}
 use Rattle.std.proofs.lemmas.Bool.{cases_lt}
 use Rattle.std.proofs.lemmas.Bool.Decides.{nat_tests}
 use Rattle.std.proofs.lemmas.Option.{slice_get_within, get_or_from_slice_get, slice_get-get_or}
 use Rattle.std.proofs.lemmas.List.Folds.{list_all_more, find_at}
 use Rattle.std.proofs.lemmas.List.Sums.{position_or_len_is, count_by_more_no, count_by_more_yes}
-use Rattle.std.specs.List.{list_all, list_any, find, count_by, position, position_or_len}
+use Rattle.std.specs.List.{range_with_len, list_all, list_any, find, count_by, position, position_or_len}
+use Rattle.std.proofs.lemmas.List.FromFn.{length-range_with_len, get_or-range_with_len}
+use native.Mathlib.Nat.{zero-add}
 use lib.Ieee.Bits.{is_true}
 use Rattle.arith.specs.Lists.{every, place_of, places_of}
-use Rattle.arith.proofs.Lists.{place-most, place-before, place_found, places-next}
+use Rattle.arith.proofs.Lists.{every-same, place-most, place-before, place_found, places-next}
 
 module _ {A : Type 0} (p : A → Bool) (xs : List A) (d : A) where
   -- the first i pass
@@ -58,6 +60,39 @@ module _ {A : Type 0} (p : A → Bool) (xs : List A) (d : A) where
   -- how many pass
   pub count_places : (n : ℕ) → length xs ≡ n → count_by p xs ≡ length (places_of n (λ j. p (get_or xs j d)))
   count_places n e = sym (ap (count_by p) (take_all n xs (omega arith))) ∙ count_front n (omega arith)
+
+and_true : (a : Bool) → a ≡ a && true
+and_true true = refl
+and_true false = refl
+
+and_assoc : (a b c : Bool) → (a && b) && c ≡ a && (b && c)
+and_assoc true b c = refl
+and_assoc false b c = refl
+
+or-not : (a b : Bool) → (a || not b) ≡ not (not a && b)
+or-not true b = refl
+or-not false b = refl
+
+-- the first place apart
+every-first : (n : ℕ) (t : ℕ → Bool) → every (suc n) t ≡ t 0 && every n (λ k. t (suc k))
+unfolding every
+every-first zero t = and_true (t 0)
+every-first (suc n) t = ap (λ (b : Bool). b && t (suc n)) (every-first n t) ∙ and_assoc (t 0) _ _
+
+-- some passes
+pub any_every : {A : Type 0} (p : A → Bool) (xs : List A) (d : A) → list_any p xs ≡ not (every (length xs) (λ k. not (p (get_or xs k d))))
+unfolding every
+any_every p [] d = refl
+any_every p (x ∷ xs) d =
+    ap (λ (b : Bool). p x || b) (any_every p xs d)
+    ∙ or-not (p x) _
+    ∙ ap not (sym (every-first (length xs) (λ k. not (p (get_or (x ∷ xs) k d)))))
+
+-- all numbers below n pass
+pub below_every : (n : ℕ) (t : ℕ → Bool) → list_all t (range_with_len 0 n) ≡ every n t
+below_every n t =
+    all_every t (range_with_len 0 n) 0 n (length-range_with_len 0 n)
+    ∙ every-same n (λ k. t (get_or (range_with_len 0 n) k 0)) t (λ k l. ap t (get_or-range_with_len 0 n k 0 l ∙ zero-add k))
 
 -- one passes where there is a first
 pub any_first : {A : Type 0} (p : A → Bool) (xs : List A) → list_any p xs ≡ ltb (position_or_len p xs) (length xs)

@@ -1,6 +1,6 @@
 // A value moved to the grid of a stepped distribution, and held to its ends.
 ghost use Rattle.std.specs.Prelude.{◌≡◌};
-ghost use Rattle.common.specs.Grid.{raised_to, lowered_to, clamp_of, float_grid, raised_to_z, lowered_to_z, clamp_z, int_grid};
+ghost use Rattle.common.specs.Grid.{raised_to, lowered_to, clamp_of, float_grid, clamp_z, int_grid};
 ghost use Rattle.common.specs.GridParts.{StepFits};
 
 use distribution::{FloatDistribution, IntDistribution};
@@ -36,23 +36,11 @@ pub(crate) fn float_grid(d: FloatDistribution, v: f64) -> f64
     }
 }
 
-fn int_raised_to(low: i64, z: i64) -> i64
-    ensures { result ≡ raised_to_z low z }
-{
-    if z < low { low } else { z }
-}
-
-fn int_lowered_to(high: i64, z: i64) -> i64
-    ensures { result ≡ lowered_to_z high z }
-{
-    if z > high { high } else { z }
-}
-
-// Rust's i64::clamp.
+// Rust's i64::clamp, also where high is below low.
 pub(crate) fn int_clamp(low: i64, high: i64, z: i64) -> i64
     ensures { result ≡ clamp_z low high z }
 {
-    int_lowered_to(high, int_raised_to(low, z))
+    z.max(low).min(high)
 }
 
 // The whole number of the grid nearest to v, counted from low; the nearest whole number where there is no step.

@@ -27,10 +27,8 @@ fn settle(w: u64, drawn: u64, next: u64, value: ParamValue) -> RandomDraw
     ensures { result ≡ settled w drawn next value }
 {
     match value {
-        ParamValue::Float(_) => RandomDraw { value, drawn, next },
-        ParamValue::Int(_) => RandomDraw { value, drawn, next },
-        ParamValue::Categorical(_) => RandomDraw { value, drawn, next },
         ParamValue::Refused(n) => refused(w, n),
+        _ => RandomDraw { value, drawn, next },
     }
 }
 

@@ -102,7 +102,14 @@ fn read_categorical(low: u64, high: u64, log: u64, stepped: u64, step: u64) -> O
 
 // The distribution that six words say, or that they are malformed.
 #[tactic(auto, unfolding(crate::specs::Words::read_of))]
-pub fn distribution_of(kind: u64, low: u64, high: u64, log: u64, stepped: u64, step: u64) -> Option<Distribution>
+pub fn distribution_of(
+    kind: u64,
+    low: u64,
+    high: u64,
+    log: u64,
+    stepped: u64,
+    step: u64,
+) -> Option<Distribution>
     ensures { result ≡ read_of kind low high log stepped step }
 {
     match kind {

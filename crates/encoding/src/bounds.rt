@@ -20,6 +20,7 @@ fn pair(lo: Result<f64, Refusal>, hi: Result<f64, Refusal>) -> InternalBounds
 }
 
 // The ends of a well-formed distribution.
+#[tactic(auto, unfolding(crate::specs::Bounds::ends_of))]
 pub fn ends(d: Distribution) -> InternalBounds
     ensures { result ≡ ends_of d }
 {
@@ -34,6 +35,7 @@ pub fn ends(d: Distribution) -> InternalBounds
 }
 
 // The ends of any distribution: 11 where it is malformed.
+#[tactic(auto, unfolding(crate::specs::Bounds::bounds_of))]
 pub fn internal_bounds(d: Distribution) -> InternalBounds
     ensures { result ≡ bounds_of d }
 {

@@ -7,38 +7,30 @@ use distribution::{Distribution, ParamValue};
 use refusal::Refusal;
 
 // Of a value under a well-formed distribution.
+#[tactic(auto, unfolding(crate::specs::Encode::encoded_of))]
 fn encoded(v: ParamValue, d: Distribution) -> Result<f64, Refusal>
     ensures { result ≡ encoded_of v d }
 {
     let taken = distribution::taken_rule(d, v);
-    match d {
-        Distribution::Float(f) => match v {
-            ParamValue::Float(x) => {
-                if !taken {
-                    return Err(Refusal::OutOfDomain);
-                }
-                scale(f.log_scale, x)
+    match (d, v) {
+        (Distribution::Float(f), ParamValue::Float(x)) => {
+            if !taken {
+                return Err(Refusal::OutOfDomain);
             }
-            ParamValue::Int(_) => Ok(0.0),
-            ParamValue::Categorical(_) => Ok(0.0),
-            ParamValue::Refused(_) => Ok(0.0),
-        },
-        Distribution::Int(i) => match v {
-            ParamValue::Float(_) => Ok(0.0),
-            ParamValue::Int(z) => {
-                if !taken {
-                    return Err(Refusal::OutOfDomain);
-                }
-                scale(i.log_scale, arith::float_of_int(z))
+            scale(f.log_scale, x)
+        }
+        (Distribution::Int(i), ParamValue::Int(z)) => {
+            if !taken {
+                return Err(Refusal::OutOfDomain);
             }
-            ParamValue::Categorical(_) => Ok(0.0),
-            ParamValue::Refused(_) => Ok(0.0),
-        },
-        Distribution::Categorical(_) => Ok(0.0),
+            scale(i.log_scale, arith::float_of_int(z))
+        }
+        _ => Ok(0.0),
     }
 }
 
 // Of any value: 11 where the distribution is malformed, or a value of its kind breaks the Taken rule.
+#[tactic(auto, unfolding(crate::specs::Encode::to_internal_of))]
 pub fn to_internal(v: ParamValue, d: Distribution) -> Result<f64, Refusal>
     ensures { result ≡ to_internal_of v d }
 {

@@ -55,9 +55,8 @@ module _ (x : List Float) (ns : List ℕ) (e : ns ≡ list_of (λ p. size_of (ge
   pub sizes-small : (p : ℕ) → p < 8 → get_or ns p 0 ≤ 1022
   sizes-small p h = rw (size-at p h) (size_small (get_or x p nan))
 
-  pub fallings-exp : (r : List Float) → r ≡ list_of (λ p. falling_of (get_or x p nan) (get_or ns p 0)) 8 → (p : ℕ) → p < 8 → Falling (get_or x p nan) → get_or r p nan ≡ value_of (exp_of (get_or x p nan))
-  fallings-exp r q p h f =
+  pub fallings-at : (r : List Float) → r ≡ list_of (λ p. falling_of (get_or x p nan) (get_or ns p 0)) 8 → (p : ℕ) → p < 8 → get_or r p nan ≡ falling_of (get_or x p nan) (size_of (get_or x p nan))
+  fallings-at r q p h =
       ap (λ (l : List Float). get_or l p nan) q
       ∙ grown-at (λ xs p. falling_of (get_or x p nan) (get_or ns p 0)) 8 p h
       ∙ ap (falling_of (get_or x p nan)) (size-at p h)
-      ∙ falling-exp (get_or x p nan) f

@@ -9,7 +9,7 @@ ghost use Rattle.arith.specs.Lists.{list_of};
 ghost use Rattle.arith.specs.Outcome.{value_of};
 ghost use Rattle.arith.specs.Rounding.{nearest_of};
 ghost use Rattle.exponential.specs.Exp.{exp_of, horner_of, reduced_of, one};
-ghost use Rattle.exponential.specs.ExpParts.{Falling, size_of, falling_of};
+ghost use Rattle.exponential.specs.ExpParts.{size_of, falling_of};
 
 use refusal::Refusal;
 
@@ -95,16 +95,11 @@ fn whole(x: f64) -> u64
 }
 
 // The same of each of eight.
+#[tactic(auto, using(arith::proofs::Eights::eight_numbers))]
 fn wholes(x: &[f64; 8]) -> [u64; 8]
     ensures { result ≡ list_of (λ (p : ℕ). size_of (slice_index_or x.now p nan)) 8 }
 {
-    let mut out = [0; 8];
-    let mut p = 0;
-    while p < 8 {
-        out[p] = whole(x[p]);
-        p += 1;
-    }
-    out
+    std::array::from_fn(|p| whole(x[p]))
 }
 
 // The answer by k = -n.
@@ -116,23 +111,17 @@ fn falling(x: f64, n: u64) -> f64
 }
 
 // The same of each of eight, with no branch.
+#[tactic(auto, using(arith::proofs::Eights::eight_floats))]
 fn fallings(x: &[f64; 8], n: &[u64; 8]) -> [f64; 8]
     requires { (p : ℕ) → p < 8 → slice_index n.now p ≤ 1022 }
     ensures { result ≡ list_of (λ (p : ℕ). falling_of (slice_index_or x.now p nan) (slice_index n.now p)) 8 }
 {
-    let mut out = [0.0; 8];
-    let mut p = 0;
-    while p < 8 {
-        out[p] = falling(x[p], n[p]);
-        p += 1;
-    }
-    out
+    std::array::from_fn(|p| falling(x[p], n[p]))
 }
 
 // The exponential of x, which is e where x is from -708 up and below 0; a NaN above 709.
 fn settled(x: f64, e: f64) -> f64
-    requires { Falling x → e ≡ value_of (exp_of x) }
-    ensures { result ≡ value_of (exp_of x) }
+    ensures { e ≡ falling_of x (size_of x) → result ≡ value_of (exp_of x) }
 {
     if x < 0.0 {
         if x < -708.0 {
@@ -149,11 +138,5 @@ pub fn exp_eight(x: &[f64; 8]) -> [f64; 8]
 {
     let n = wholes(x);
     let e = fallings(x, &n);
-    let mut out = [0.0; 8];
-    let mut p = 0;
-    while p < 8 {
-        out[p] = settled(x[p], e[p]);
-        p += 1;
-    }
-    out
+    std::array::from_fn(|p| settled(x[p], e[p]))
 }

@@ -11,17 +11,14 @@ ghost use Rattle.lane_kernels.specs.Kernels.{distance_term, kernel_rows_of, kern
 use crate::roots;
 
 // s and the squares of the scaled differences of a column, lane by lane.
+#[tactic(auto, using(arith::proofs::Eights::eight_floats))]
 fn squares(s: &[f64; 8], column: &[f64; 8], x: f64, lengthscale: f64) -> [f64; 8]
     ensures { result ≡ eight_of (λ (p : ℕ). add binary64 (get_or s.now p nan) (square (div binary64 (sub binary64 (get_or column.now p nan) x) lengthscale))) }
 {
-    let mut out = [0.0; 8];
-    let mut p = 0;
-    while p < 8 {
+    std::array::from_fn(|p| {
         let diff = (column[p] - x) / lengthscale;
-        out[p] = s[p] + diff * diff;
-        p += 1;
-    }
-    out
+        s[p] + diff * diff
+    })
 }
 
 // The squared distances of eight points and row i of a table of d columns.
@@ -37,38 +34,25 @@ fn distance(
 {
     let start = i * d;
     let mut s = [0.0; 8];
-    let mut j = 0;
-    while j < d {
+    for j in 0..d {
         s = squares(&s, &points[j], x[start + j], lengthscales[j]);
-        j += 1;
     }
     s
 }
 
 // Minus each of eight floats.
+#[tactic(auto, using(arith::proofs::Eights::eight_floats))]
 fn negated(q: &[f64; 8]) -> [f64; 8]
     ensures { result ≡ eight_of (λ (p : ℕ). neg (get_or q.now p nan)) }
 {
-    let mut out = [0.0; 8];
-    let mut p = 0;
-    while p < 8 {
-        out[p] = -q[p];
-        p += 1;
-    }
-    out
+    std::array::from_fn(|p| -q[p])
 }
 
 // The kernel's polynomial by eight squared distances and their scaled roots, times e.
 fn polynomials(r_sq: &[f64; 8], q: &[f64; 8], e: &[f64; 8]) -> [f64; 8]
     ensures { result ≡ eight_of (λ (p : ℕ). mul binary64 (mul binary64 (of_int binary64 (pos 1)) (polynomial_of (get_or q.now p nan) (get_or r_sq.now p nan))) (get_or e.now p nan)) }
 {
-    let mut out = [0.0; 8];
-    let mut p = 0;
-    while p < 8 {
-        out[p] = 1.0 * (1.0 + q[p] + 5.0 / 3.0 * r_sq[p]) * e[p];
-        p += 1;
-    }
-    out
+    std::array::from_fn(|p| 1.0 * (1.0 + q[p] + 5.0 / 3.0 * r_sq[p]) * e[p])
 }
 
 // The kernel by each of eight squared distances.
@@ -93,16 +77,15 @@ fn kernel_rows(
     ensures { result ≡ rows_of (kernel_rows_of points.now x.now n d lengthscales.now) }
 {
     let mut out = [[0.0; 8]; 100];
-    let mut i = 0;
-    while i < n {
+    for i in 0..n {
         let r_sq = distance(points, x, d, lengthscales, i);
         out[i] = decays(&r_sq);
-        i += 1;
     }
     out
 }
 
 // The same: zeros over 100 rows or 20 columns, and where a list's length is another.
+#[tactic(auto, unfolding(crate::specs::Kernels::kernel_lanes_of))]
 pub fn kernel_vectors(
     points: &[[f64; 8]; 20],
     x: &[f64],

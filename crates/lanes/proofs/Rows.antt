@@ -3,14 +3,10 @@ use mathlib.Core.Path.{◌≡◌, ap, ◌∙◌}
 use mathlib.Core.List.{List, []}
 use Prim.Native.Nat.{ℕ, suc, ◌≤◌, ◌<◌}
 use lib.ListN.{length, get_or, set}
-use lib.Ieee.{Float, nan, binary64, of_bits}
-use Rattle.arith.specs.Lists.{list_of, padded}
-use Rattle.arith.proofs.Lists.{grown-at, grown-length, grown-read, grown-filled-set, filled_at, filled-length, list_same, eight-filled, filled-past}
+use lib.Ieee.{Float, nan}
+use Rattle.arith.specs.Lists.{list_of}
+use Rattle.arith.proofs.Lists.{grown-at, grown-length, grown-read, grown-filled-set, filled_at, filled-length, list_same, filled-past}
 use Rattle.lanes.specs.Rows.{cell, eight_of, lanes_of, rows_of, zero_row}
-
--- a row that is made whole
-pub eight-all : (f : ℕ → Float) (p : ℕ) → p ≡ 8 → padded 8 (list_of f p) ≡ eight_of f
-eight-all f p e = eight-filled (of_bits binary64 0) f p e
 
 -- lane p of a row
 pub eight-at : (f : ℕ → Float) {r : List Float} → r ≡ eight_of f → (p : ℕ) → p < 8 → get_or r p nan ≡ f p

@@ -8,42 +8,31 @@ ghost use Rattle.lanes.specs.Rows.{cell, eight_of, lane_of, lanes_of, rows_of};
 ghost use Rattle.lanes.specs.Solving.{solve_lanes_of};
 
 // s less v times x, lane by lane.
+#[tactic(auto, using(arith::proofs::Eights::eight_floats))]
 fn less(s: &[f64; 8], v: f64, x: &[f64; 8]) -> [f64; 8]
     ensures { result ≡ eight_of (λ (p : ℕ). sub binary64 (get_or s.now p nan) (mul binary64 v (get_or x.now p nan))) }
 {
-    let mut out = [0.0; 8];
-    let mut p = 0;
-    while p < 8 {
-        out[p] = s[p] - v * x[p];
-        p += 1;
-    }
-    out
+    std::array::from_fn(|p| s[p] - v * x[p])
 }
 
 // s over v, lane by lane.
+#[tactic(auto, using(arith::proofs::Eights::eight_floats))]
 fn over(s: &[f64; 8], v: f64) -> [f64; 8]
     ensures { result ≡ eight_of (λ (p : ℕ). div binary64 (get_or s.now p nan) v) }
 {
-    let mut out = [0.0; 8];
-    let mut p = 0;
-    while p < 8 {
-        out[p] = s[p] / v;
-        p += 1;
-    }
-    out
+    std::array::from_fn(|p| s[p] / v)
 }
 
 // Row i of the forward solutions, from the rows before it in z.
+#[tactic(auto, using(factor::proofs::Triangle::at_room, crate::proofs::Less::row_start))]
 fn next(l: &[f64; 5050], b: &[[f64; 8]; 100], z: &[[f64; 8]; 100], i: usize) -> [f64; 8]
     requires { i < 100 }
     ensures { result ≡ eight_of (λ (p : ℕ). div binary64 (less_of i (entry l.now i) (λ (k : ℕ). cell z.now k p) (cell b.now i p)) (entry l.now i i)) }
 {
     let start = i * (i + 1) / 2;
     let mut s = b[i];
-    let mut k = 0;
-    while k < i {
+    for k in 0..i {
         s = less(&s, l[start + k], &z[k]);
-        k += 1;
     }
     over(&s, l[start + i])
 }
@@ -54,15 +43,14 @@ fn forward(l: &[f64; 5050], b: &[[f64; 8]; 100], n: usize) -> [[f64; 8]; 100]
     ensures { result ≡ rows_of (lanes_of (λ (p : ℕ). forward_of l.now (lane_of b.now 100 p) n) n) }
 {
     let mut z = [[0.0; 8]; 100];
-    let mut i = 0;
-    while i < n {
+    for i in 0..n {
         z[i] = next(l, b, &z, i);
-        i += 1;
     }
     z
 }
 
 // Row i of the unknowns, from the m rows behind it in x.
+#[tactic(auto, using(factor::proofs::Triangle::at_room, crate::proofs::Less::row_start, crate::proofs::Less::below_room))]
 fn unknown(
     l: &[f64; 5050],
     z: &[[f64; 8]; 100],
@@ -76,12 +64,10 @@ fn unknown(
     let diagonal = i * (i + 1) / 2 + i;
     let mut s = z[i];
     let mut place = diagonal;
-    let mut k = 0;
-    while k < m {
+    for k in 0..m {
         let q = i + 1 + k;
         place += q;
         s = less(&s, l[place], &x[q]);
-        k += 1;
     }
     over(&s, l[diagonal])
 }
@@ -92,16 +78,15 @@ fn backward(l: &[f64; 5050], z: &[[f64; 8]; 100], n: usize) -> [[f64; 8]; 100]
     ensures { result ≡ rows_of (lanes_of (λ (p : ℕ). backward_of l.now (lane_of z.now n p) n n) n) }
 {
     let mut x = [[0.0; 8]; 100];
-    let mut m = 0;
-    while m < n {
+    for m in 0..n {
         let i = n - 1 - m;
         x[i] = unknown(l, z, &x, i, m);
-        m += 1;
     }
     x
 }
 
 // x with L Lᵀ x = b for each lane, of the first n rows: all zeros over 100 rows.
+#[tactic(auto, unfolding(crate::specs::Solving::solve_lanes_of))]
 pub fn solve(l: &[f64; 5050], b: &[[f64; 8]; 100], n: usize) -> [[f64; 8]; 100]
     ensures { result ≡ solve_lanes_of l.now b.now n }
 {

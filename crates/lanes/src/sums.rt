@@ -6,19 +6,15 @@ ghost use Rattle.lanes.specs.Rows.{eight_of};
 ghost use Rattle.lanes.specs.Sums.{dot_lanes_of, dot_each_of};
 
 // s and the product of a and b, lane by lane.
+#[tactic(auto, using(arith::proofs::Eights::eight_floats))]
 fn more(s: &[f64; 8], a: &[f64; 8], b: &[f64; 8]) -> [f64; 8]
     ensures { result ≡ eight_of (λ (p : ℕ). add binary64 (get_or s.now p nan) (mul binary64 (get_or a.now p nan) (get_or b.now p nan))) }
 {
-    let mut out = [0.0; 8];
-    let mut p = 0;
-    while p < 8 {
-        out[p] = s[p] + a[p] * b[p];
-        p += 1;
-    }
-    out
+    std::array::from_fn(|p| s[p] + a[p] * b[p])
 }
 
 // The dot products of the first n rows of a and b, lane by lane: zeros over 100 rows.
+#[tactic(auto, unfolding(crate::specs::Sums::dot_lanes_of))]
 pub fn dot(a: &[[f64; 8]; 100], b: &[[f64; 8]; 100], n: usize) -> [f64; 8]
     ensures { result ≡ dot_lanes_of a.now b.now n }
 {
@@ -26,28 +22,22 @@ pub fn dot(a: &[[f64; 8]; 100], b: &[[f64; 8]; 100], n: usize) -> [f64; 8]
     if n > 100 {
         return s;
     }
-    let mut i = 0;
-    while i < n {
+    for i in 0..n {
         s = more(&s, &a[i], &b[i]);
-        i += 1;
     }
     s
 }
 
 // s and the product of a and v, lane by lane.
+#[tactic(auto, using(arith::proofs::Eights::eight_floats))]
 fn more_by(s: &[f64; 8], a: &[f64; 8], v: f64) -> [f64; 8]
     ensures { result ≡ eight_of (λ (p : ℕ). add binary64 (get_or s.now p nan) (mul binary64 (get_or a.now p nan) v)) }
 {
-    let mut out = [0.0; 8];
-    let mut p = 0;
-    while p < 8 {
-        out[p] = s[p] + a[p] * v;
-        p += 1;
-    }
-    out
+    std::array::from_fn(|p| s[p] + a[p] * v)
 }
 
 // The dot products of the first n rows of each lane of a and of one list b: zeros over 100 rows, or where b is shorter.
+#[tactic(auto, unfolding(crate::specs::Sums::dot_each_of))]
 pub fn dot_each(a: &[[f64; 8]; 100], b: &[f64], n: usize) -> [f64; 8]
     ensures { result ≡ dot_each_of a.now b.now n }
 {
@@ -58,10 +48,8 @@ pub fn dot_each(a: &[[f64; 8]; 100], b: &[f64], n: usize) -> [f64; 8]
     if n > b.len() {
         return s;
     }
-    let mut i = 0;
-    while i < n {
+    for i in 0..n {
         s = more_by(&s, &a[i], b[i]);
-        i += 1;
     }
     s
 }

@@ -57,21 +57,15 @@ impl<R: Report> Text<R> {
     }
 
     // Writes what a step asks for; one that ends the run has its bytes. Whether to read on.
-    fn tell(&mut self, t: Step) -> bool {
+    fn tell(&mut self, t: &Step) -> bool {
         let more = if matches!(t.reader.stage, Stage::Ended) {
-            put_answer(self.rt, &t);
+            put_answer(self.rt, t);
             false
         } else {
-            self.report.step(self.rt, &self.reader, &t, &self.history)
+            self.report.step(self.rt, &self.reader, t, &self.history)
         };
         self.reader = t.reader;
         more
-    }
-
-    // One line. Whether to read on.
-    fn line(&mut self, line: &[u8]) -> bool {
-        let t = propose_text::read_line(self.reader, line, &mut self.history);
-        self.tell(t)
     }
 
     // Every whole line of these bytes. How many bytes are left, or none where the run ends.
@@ -80,7 +74,8 @@ impl<R: Report> Text<R> {
     {
         let mut rest = bytes;
         while let Some(end) = rest.iter().position(|b| *b == b'\n') {
-            if !self.line(&rest[..end]) {
+            let t = propose_text::read_line(self.reader, &rest[..end], &mut self.history);
+            if !self.tell(&t) {
                 return None;
             }
             rest = &rest[end + 1..];
@@ -88,9 +83,16 @@ impl<R: Report> Text<R> {
         Some(rest.len())
     }
 
+    // A line that is longer than any table has: it ends the run.
+    fn long_line(&mut self, line: &[u8]) {
+        let t = propose_text::read_line(self.reader, line, &mut self.history);
+        self.tell(&t);
+    }
+
     // The end of the text, after these bytes.
     fn finish(&mut self, rest: &[u8]) {
-        self.tell(propose_text::finish(self.reader, rest));
+        let t = propose_text::finish(self.reader, rest);
+        self.tell(&t);
     }
 }
 
@@ -132,7 +134,7 @@ impl Input {
         };
         let start = full - have;
         if have > propose_text::LONGEST {
-            text.line(&self.buffer[start..full]);
+            text.long_line(&self.buffer[start..full]);
             return false;
         }
         pieces::keep(&mut self.buffer, start, full);

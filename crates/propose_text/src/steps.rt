@@ -4,22 +4,16 @@ ghost use Rattle.text_laws.specs.Steps.{Reading, reading_of, stepped_of, awaits,
 ghost use Rattle.text_laws.specs.declared.Event.{Event};
 ghost use Rattle.text_laws.specs.declared.Stage.{Stage};
 
-use distribution::ParamValue;
 use sampler_laws::Sampled;
-use sampler_state::Sampler;
 use settings::Settings;
 use text_laws::{Event, Reader, Stage, Step};
 
 // Another line is awaited, and nothing is written.
-fn awaiting(stage: Stage, event: Event, sampler: Sampler, count: usize) -> Step
-    ensures { (h : List ℕ) → stepped_of result h ≡ awaits stage event (reading_of (record { stage = stage; sampler = sampler; count = count }) h) }
+fn awaiting(reader: Reader, event: Event) -> Step
+    ensures { (h : List ℕ) → stepped_of result h ≡ awaits reader.stage event (reading_of reader h) }
 {
     Step {
-        reader: Reader {
-            stage,
-            sampler,
-            count,
-        },
+        reader,
         event,
         len: 0,
         bytes: [0; 68],
@@ -27,14 +21,13 @@ fn awaiting(stage: Stage, event: Event, sampler: Sampler, count: usize) -> Step
 }
 
 // The run ends with a number.
-fn ending(number: u64, sampler: Sampler, count: usize) -> Step
-    ensures { (h : List ℕ) → stepped_of result h ≡ ends number (reading_of (record { stage = Stage.Ended; sampler = sampler; count = count }) h) }
+fn ending(number: u64, reader: Reader) -> Step
+    ensures { (h : List ℕ) → stepped_of result h ≡ ends number (reading_of reader h) }
 {
     Step {
         reader: Reader {
             stage: Stage::Ended,
-            sampler,
-            count,
+            ..reader
         },
         event: Event::Refused(number),
         len: 68,
@@ -46,11 +39,10 @@ fn ending(number: u64, sampler: Sampler, count: usize) -> Step
 fn after_names(ok: bool, stage: Stage, r: Reader) -> Step
     ensures { (h : List ℕ) → stepped_of result h ≡ named ok stage (reading_of r h) }
 {
-    let sampler = r.sampler;
     if ok {
-        return awaiting(stage, Event::Names, sampler, r.count);
+        return awaiting(Reader { stage, ..r }, Event::Names);
     }
-    ending(14, sampler, r.count)
+    ending(14, r)
 }
 
 // The settings that five words are.
@@ -70,62 +62,68 @@ fn settings_of(words: [u64; 5]) -> Settings
 fn settings_line(r: Reader, line: &[u8]) -> Step
     ensures { (h : List ℕ) → stepped_of result h ≡ settings_line (reading_of r h) line.now }
 {
-    let sampler = r.sampler;
     let mut words = [0u64; 5];
     if !propose_lines::read_words(line, 5, &mut words, 0) {
-        return ending(14, sampler, r.count);
+        return ending(14, r);
     }
     let made = sampler_state::build(settings_of(words));
     if made.number != 0 {
-        return ending(made.number, sampler, r.count);
+        return ending(made.number, r);
     }
-    let fresh = made.sampler;
-    awaiting(Stage::HistoryNames, Event::Settings, fresh, r.count)
+    let fresh = Reader {
+        stage: Stage::HistoryNames,
+        sampler: made.sampler,
+        ..r
+    };
+    awaiting(fresh, Event::Settings)
 }
 
 // Whether a line has the history's names for the sampler.
-fn has_history_names(r: Reader, line: &[u8]) -> bool
-    ensures { result ≡ history_named r.sampler line.now }
+fn has_history_names(r: &Reader, line: &[u8]) -> bool
+    ensures { result ≡ history_named r.now.sampler line.now }
 {
-    let sampler = r.sampler;
-    let settings = sampler.settings;
-    settings.slots <= 20 && propose_lines::is_history(line, settings.slots)
+    let slots = r.sampler.settings.slots;
+    slots <= 20 && propose_lines::is_history(line, slots)
 }
 
 // How many of the array's words are the history's.
 fn held(count: usize) -> usize
     ensures { result ≡ min count 8192 }
 {
-    if count < 8192 { count } else { 8192 }
+    count.min(8192)
 }
 
 // A row: its words go behind those that are there, as long as the array has room for them.
-fn row_line(r: Reader, line: &[u8], history: &mut [u64]) -> Step
-    requires { length history.old ≡ 8192 }
+fn row_line(r: Reader, line: &[u8], history: &mut [u64; 8192]) -> Step
     ensures { stepped_of result history.new ≡ row_line (reading_of r history.old) line.now }
 {
-    let sampler = r.sampler;
-    let settings = sampler.settings;
-    let slots = settings.slots;
+    let slots = r.sampler.settings.slots;
     let at = held(r.count);
     if slots > 20 {
-        return ending(14, sampler, at);
+        return ending(14, Reader { count: at, ..r });
     }
     let k = 3 + 8 * slots as usize;
     if !propose_lines::read_words(line, k, history, at) {
-        return ending(14, sampler, at);
+        return ending(14, Reader { count: at, ..r });
     }
-    awaiting(Stage::History, Event::Row, sampler, at + k)
+    let more = Reader {
+        stage: Stage::History,
+        count: at + k,
+        ..r
+    };
+    awaiting(more, Event::Row)
 }
 
 // A row, or the names of the calls.
-fn history_line(r: Reader, line: &[u8], history: &mut [u64]) -> Step
-    requires { length history.old ≡ 8192 }
+fn history_line(r: Reader, line: &[u8], history: &mut [u64; 8192]) -> Step
     ensures { stepped_of result history.new ≡ history_line (reading_of r history.old) line.now }
 {
     if propose_lines::is_calls(line) {
-        let sampler = r.sampler;
-        return awaiting(Stage::Calls, Event::CallsBegin, sampler, r.count);
+        let calls = Reader {
+            stage: Stage::Calls,
+            ..r
+        };
+        return awaiting(calls, Event::CallsBegin);
     }
     row_line(r, line, history)
 }
@@ -135,11 +133,10 @@ fn answered(trial: u64, a: Sampled, count: usize) -> Step
     ensures { (h : List ℕ) → stepped_of result h ≡ answered_of trial a (reading_of (record { stage = Stage.Calls; sampler = a.sampler; count = count }) h) }
 {
     let value = a.value;
-    let sampler = a.sampler;
     Step {
         reader: Reader {
             stage: Stage::Calls,
-            sampler,
+            sampler: a.sampler,
             count,
         },
         event: Event::Call,
@@ -154,13 +151,12 @@ fn answered(trial: u64, a: Sampled, count: usize) -> Step
 }
 
 // What the sampler answers to the seven words of a call.
-fn called(sampler: Sampler, words: [u64; 7], history: &[u64], count: usize) -> Sampled
-    requires { length history.now ≡ 8192 }
-    ensures { result ≡ sampled_of (reading_of (record { stage = Stage.Calls; sampler = sampler; count = count }) history.now) words }
+fn called(r: &Reader, words: [u64; 7], history: &[u64; 8192]) -> Sampled
+    ensures { result ≡ sampled_of (reading_of r.now history.now) words }
 {
-    let n = held(count);
+    let n = held(r.count);
     sampler::sample(
-        sampler,
+        r.sampler,
         words[1],
         words[2],
         words[3],
@@ -168,21 +164,19 @@ fn called(sampler: Sampler, words: [u64; 7], history: &[u64], count: usize) -> S
         words[5],
         words[6],
         words[0],
-        &history[0..n],
+        &history[..n],
     )
 }
 
 // A call on the sampler.
-fn call_line(r: Reader, line: &[u8], history: &[u64]) -> Step
-    requires { length history.now ≡ 8192 }
+fn call_line(r: Reader, line: &[u8], history: &[u64; 8192]) -> Step
     ensures { stepped_of result history.now ≡ call_line (reading_of r history.now) line.now }
 {
-    let sampler = r.sampler;
     let mut words = [0u64; 7];
     if !propose_lines::read_words(line, 7, &mut words, 0) {
-        return ending(14, sampler, r.count);
+        return ending(14, r);
     }
-    let a = called(sampler, words, history, r.count);
+    let a = called(&r, words, history);
     answered(words[0], a, r.count)
 }
 
@@ -197,10 +191,9 @@ pub fn start() -> Reader
         seed: 0,
         slots: 0,
     });
-    let sampler = made.sampler;
     Reader {
         stage: Stage::SettingsNames,
-        sampler,
+        sampler: made.sampler,
         count: 0,
     }
 }
@@ -209,17 +202,13 @@ pub fn start() -> Reader
 pub fn read_line(r: Reader, line: &[u8], history: &mut [u64; 8192]) -> Step
     ensures { stepped_of result history.new ≡ step_of (reading_of r history.old) line.now }
 {
-    let stage = r.stage;
-    match stage {
+    match r.stage {
         Stage::SettingsNames => after_names(propose_lines::is_settings(line), Stage::Settings, r),
         Stage::Settings => settings_line(r, line),
-        Stage::HistoryNames => after_names(has_history_names(r, line), Stage::History, r),
+        Stage::HistoryNames => after_names(has_history_names(&r, line), Stage::History, r),
         Stage::History => history_line(r, line, history),
         Stage::Calls => call_line(r, line, history),
-        Stage::Ended => {
-            let sampler = r.sampler;
-            awaiting(Stage::Ended, Event::Nothing, sampler, r.count)
-        }
+        Stage::Ended => awaiting(r, Event::Nothing),
     }
 }
 
@@ -228,12 +217,9 @@ fn may_end(stage: Stage, rest: &[u8]) -> bool
     ensures { (r : Reading) → finish_at stage r rest.now ≡ cond result (awaits Stage.Ended Event.Nothing r) (ends 14 r) }
 {
     match stage {
-        Stage::SettingsNames => false,
-        Stage::Settings => false,
-        Stage::HistoryNames => false,
-        Stage::History => false,
         Stage::Calls => rest.len() == 0,
         Stage::Ended => true,
+        _ => false,
     }
 }
 
@@ -241,10 +227,12 @@ fn may_end(stage: Stage, rest: &[u8]) -> bool
 pub fn finish(r: Reader, rest: &[u8]) -> Step
     ensures { (h : List ℕ) → stepped_of result h ≡ finish_of (reading_of r h) rest.now }
 {
-    let stage = r.stage;
-    let sampler = r.sampler;
-    if may_end(stage, rest) {
-        return awaiting(Stage::Ended, Event::Nothing, sampler, r.count);
+    if may_end(r.stage, rest) {
+        let ended = Reader {
+            stage: Stage::Ended,
+            ..r
+        };
+        return awaiting(ended, Event::Nothing);
     }
-    ending(14, sampler, r.count)
+    ending(14, r)
 }

@@ -1,5 +1,5 @@
 -- The definitions at single points, computed. Assumes nothing.
-use Rattle.std.specs.Prelude.{ℕ, Result, Ok, Err}
+use Rattle.std.specs.Prelude.{ℕ, Ok, Err}
 use Rattle.std.proofs.Common.{◌≡◌, refl}
 use Rattle.refusal.specs.declared.Refusal.TheVariants.{Settings, Pivot, NoRows, OutOfDomain, Text}
 use Rattle.refusal.specs.Numbers.{number_of}

@@ -12,8 +12,7 @@ fn asked(s: Sampler, d: Distribution, trial: u64, h: &[u64]) -> Sampled
     requires { s.n_dims ≤ 20 }
     ensures { result ≡ asked_of s (Some d) trial h.now }
 {
-    let settings = s.settings;
-    let number = history_rows::refusal(settings.slots as usize, h);
+    let number = history_rows::refusal(s.settings.slots as usize, h);
     if number != 0 {
         return states::refused(s, number);
     }
@@ -50,8 +49,7 @@ pub fn close(s: Sampler, trial: u64) -> Sampled
     if !sampler_state::sampler_ok(s) {
         return states::refused(s, 11);
     }
-    let places = s.places;
-    let i = sampler_state::trial_place(places, trial);
+    let i = sampler_state::trial_place(s.places, trial);
     if i >= 32 {
         return states::refused(s, 10);
     }

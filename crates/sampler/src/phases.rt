@@ -24,17 +24,22 @@ fn active(s: Sampler, d: Distribution, trial: u64, h: &[u64]) -> Sampled
     requires { s.n_dims ≤ 20 }
     ensures { result ≡ active_of s d trial h.now }
 {
-    let places = s.places;
-    let found = sampler_state::find(places, trial);
+    let found = sampler_state::find(s.places, trial);
     let i = found.spot;
     let full = i >= 32;
     if full {
         return states::refused(s, 9);
     }
-    let settings = s.settings;
-    let dims = s.dimensions;
-    let p = found.place;
-    let r = serving::serving(settings, dims, s.n_dims, s.word, p, d, trial, h);
+    let r = serving::serving(
+        s.settings,
+        s.dimensions,
+        s.n_dims,
+        s.word,
+        found.place,
+        d,
+        trial,
+        h,
+    );
     states::put(s, i, r)
 }
 

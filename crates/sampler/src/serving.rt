@@ -14,8 +14,7 @@ fn value_at(values: [Stored; 20], j: usize) -> ParamValue
     requires { j < 20 }
     ensures { result ≡ (get_or values j empty_stored).value }
 {
-    let stored = values[j];
-    stored.value
+    values[j].value
 }
 
 // Past the last value of a place: a random one, and the place as it was.
@@ -23,10 +22,9 @@ fn past(word: u64, p: Place, d: Distribution) -> Serving
     ensures { result ≡ past_of word p d }
 {
     let r = common::sample_random(word, d);
-    let value = r.value;
     Serving {
         number: 0,
-        value,
+        value: r.value,
         drawn: r.drawn,
         place: p,
         next: r.next,

@@ -58,10 +58,9 @@ pub(crate) fn with_dimension(mut s: Sampler, trial: u64, d: Distribution) -> Sam
 pub(crate) fn with_draw(s: Sampler, r: RandomDraw) -> Sampled
     ensures { result ≡ drawn_of s r }
 {
-    let value = r.value;
     Sampled {
         number: 0,
-        value,
+        value: r.value,
         drawn: r.drawn,
         sampler: with_word(s, r.next),
     }
@@ -75,13 +74,11 @@ pub(crate) fn put(mut s: Sampler, i: usize, r: Serving) -> Sampled
     if r.number != 0 {
         return refused(s, r.number);
     }
-    let place = r.place;
-    let value = r.value;
-    s.places[i] = place;
+    s.places[i] = r.place;
     s.word = r.next;
     Sampled {
         number: 0,
-        value,
+        value: r.value,
         drawn: r.drawn,
         sampler: s,
     }

@@ -1,3 +1,4 @@
 pub mod Earliest
 pub mod Eights
 pub mod Search
+pub mod Lent

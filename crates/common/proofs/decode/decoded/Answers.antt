@@ -1,12 +1,6 @@
 -- `common::decode::decoded` meets its contract, by the kind. Assumes nothing.
-use mathlib.Core.Path.{subst, sym}
 use Rattle.common.specs.Decode.{decoded_of}
-use Rattle.common.specs.DecodeParts.{Decodable}
-use Rattle.common.specs.GridParts.{OutcomeFits}
 use Rattle.common.proofs.decode.decoded.Goals as goal
-
-pub int_decoded-requires : goal.int_decoded-requires
-int_decoded-requires c = subst (OutcomeFits c.in-Int.i) (sym c.unscale-in-Int.ensures) (subst (Decodable c.args.x) c.in-Int.is c.requires)
 
 pub returns-in-Float : goal.returns-in-Float
 unfolding decoded_of

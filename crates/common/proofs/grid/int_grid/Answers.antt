@@ -48,12 +48,6 @@ sum c = c.requires.sum (taken c)
 inner : (c : After-int_of_float-k) → to_z w64 (of_z w64 (to_z w64 (of_z w64 c.int_of_float-k.result) *ℤ to_z w64 (of_z w64 c.args.d.step))) ≡ steps_to c.args.d c.args.v *ℤ c.args.d.step
 inner c = rw (steps c, step (start c)) (to_z-of_z w64 (steps_to c.args.d c.args.v *ℤ c.args.d.step) (product c))
 
-pub overflow_mul-result : goal.overflow_mul-result
-overflow_mul-result c = rw (steps (goal.at.overflow_mul-result c).After-int_of_float-k, step (start (goal.at.overflow_mul-result c).After-int_of_float-k)) (product (goal.at.overflow_mul-result c).After-int_of_float-k)
-
-pub overflow_add-result : goal.overflow_add-result
-overflow_add-result c = rw (low (start (goal.at.overflow_add-result c).After-int_of_float-k), inner (goal.at.overflow_add-result c).After-int_of_float-k) (sum (goal.at.overflow_add-result c).After-int_of_float-k)
-
 pub returns-then-d : goal.returns-then-d
 returns-then-d c = rw (low (start (goal.at.returns-then-d c).After-int_of_float-k), inner (goal.at.returns-then-d c).After-int_of_float-k) (to_z-of_z w64 (c.args.d.low +ℤ steps_to c.args.d c.args.v *ℤ c.args.d.step) (sum (goal.at.returns-then-d c).After-int_of_float-k) ∙ sym (exact c.args.d c.args.v c.requires (taken (goal.at.returns-then-d c).After-int_of_float-k)))
 

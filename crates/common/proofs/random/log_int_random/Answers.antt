@@ -1,15 +1,11 @@
 -- `common::random::log_int_random` meets its contract. Assumes nothing.
-use mathlib.Core.Path.{◌∙◌, sym, ap, subst}
+use mathlib.Core.Path.{◌∙◌, ap}
 use Rattle.distribution.specs.declared.Distribution.{Distribution}
 use Rattle.encoding.specs.Bounds.{ends_of}
 use Rattle.common.specs.Decode.{int_of}
-use Rattle.common.specs.GridParts.{OutcomeFits}
 use Rattle.common.specs.Random.{log_int_random, log_range}
 use Rattle.common.proofs.Draws.{from-unit}
 use Rattle.common.proofs.random.log_int_random.Goals as goal
-
-pub int_decoded-v-requires : goal.int_decoded-v-requires
-int_decoded-v-requires c = subst (OutcomeFits c.args.d) (sym (c.log_range.ensures ∙ (λ i. log_range (c.ends.ensures i) (c.unit_float-r.ensures i).value))) c.requires
 
 pub returns : goal.returns
 unfolding log_int_random

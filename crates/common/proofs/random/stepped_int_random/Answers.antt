@@ -1,6 +1,5 @@
 -- `common::random::stepped_int_random` meets its contract: the steps drawn stay between the ends (`Steps.antt`). Assumes nothing.
 use mathlib.Core.Path.{◌≡◌, ◌∙◌, sym, ap, subst}
-use Prim.Native.Nat.{◌<◌}
 use lib.IntN.{ℤ, pos, ◌+ℤ◌, ◌-ℤ◌, ◌*ℤ◌}
 use lib.Signed.{quot_z}
 use mir.Syntax.{w64}
@@ -36,9 +35,6 @@ quotient c =
     (λ i. quot_z ((ap (λ (z : ℤ). to_z w64 (of_z w64 z)) (difference c) ∙ to_z-of_z w64 _ (steps.span_fits _ _ _ c.requires) ∙ sym (steps.span-is _ _ _ c.requires)) i) (step c i))
     ∙ steps.steps-is c.args.low c.args.high c.args.step c.requires
 
-positive : (c : Start) → 0 < of_z w64 c.args.step
-positive c = let n = steps.step_is c.args.low c.args.high c.args.step c.requires in subst (λ (z : ℤ). 0 < of_z w64 z) (sym n.1) n.2
-
 -- the number of steps drawn
 drawn : (c : After-whole_number-r) → c.whole_number-r.result ≡ whole_draw_of c.args.w (pos 0) (pos (steps.steps c.args.low c.args.high c.args.step c.requires))
 drawn c = c.whole_number-r.ensures ∙ ap (whole_draw_of c.args.w (pos 0)) (ap (λ (z : ℤ). to_z w64 (of_z w64 z)) (quotient c.before) ∙ to_z-of_z w64 _ (steps.steps-fit _ _ _ c.requires))
@@ -54,12 +50,6 @@ product-fits c = subst (SFits w64) (sym (λ i. value c i *ℤ step c.before i)) 
 
 product : (c : After-whole_number-r) → to_z w64 (of_z w64 (to_z w64 (of_z w64 c.whole_number-r.result.value) *ℤ to_z w64 (of_z w64 c.args.step))) ≡ c.whole_number-r.result.value *ℤ c.args.step
 product c = to_z-of_z w64 _ (product-fits c) ∙ (λ i. value c i *ℤ step c.before i)
-
-pub overflow_sub-high : goal.overflow_sub-high
-overflow_sub-high c = subst (SFits w64) (sym (difference (goal.at.overflow_sub-high c).Start)) (steps.span_fits _ _ _ c.requires)
-
-pub nonzero_div-high : goal.nonzero_div-high
-nonzero_div-high c = (positive (goal.at.nonzero_div-high c).Start, subst (SFits w64) (sym (quotient (goal.at.nonzero_div-high c).Start)) (steps.steps-fit _ _ _ c.requires))
 
 pub overflow_mul-k : goal.overflow_mul-k
 overflow_mul-k c = product-fits (goal.at.overflow_mul-k c).After-whole_number-r

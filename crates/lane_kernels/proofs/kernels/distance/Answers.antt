@@ -1,14 +1,6 @@
 -- `lane_kernels::kernels::distance` meets its contract: before each turn each lane has the sum of the j columns passed. Assumes nothing.
-use mathlib.Core.Path.{◌≡◌, refl}
+use mathlib.Core.Path.{refl}
 use native.Mathlib.Numerals.{add-one}
-use native.Mathlib.Omega.{arith}
-use lib.Ieee.{of_bits}
-use Rattle.lane_kernels.specs.Kernels.{distance_term}
-use Rattle.lanes.proofs.Summed.{summed-none, summed-more}
-use borrow.Author.Rules.{rules}
-use mathlib.Core.Path.{◌≡◌, refl}
-use native.Mathlib.Numerals.{add-one}
-use native.Mathlib.Omega.{arith}
 use lib.Ieee.{of_bits}
 use Rattle.lane_kernels.specs.Kernels.{distance_term}
 use Rattle.lanes.proofs.Summed.{summed-none, summed-more}
@@ -16,13 +8,10 @@ use Rattle.lane_kernels.proofs.kernels.distance.Goals as goal
 
 pub loop-j-init : goal.loop-j-init
 unfolding of_bits
-loop-j-init c = (omega arith, summed-none _)
+loop-j-init c = summed-none _
 
 pub loop-j-preserved : goal.loop-j-preserved
 loop-j-preserved c =
     let g = c.args in
     let j = c.loop-j.j in
-    (search rules, rw (add-one j) (summed-more j (distance_term g.points.now g.x.now g.d g.lengthscales.now g.i) _ c.loop-j.s c.squares-s.result (λ p h. refl) c.loop-j.invariant.1 c.squares-s.ensures))
-
-pub returns : goal.returns
-returns c = let e : c.loop-j.j ≡ c.args.d = omega arith in rw (c.loop-j.invariant.1, e)
+    rw (add-one j) (summed-more j (distance_term g.points.now g.x.now g.d g.lengthscales.now g.i) _ c.loop-j.s c.squares-s.result (λ p h. refl) c.loop-j.invariant c.squares-s.ensures)

@@ -1,5 +1,5 @@
 -- `lane_kernels::kernels::kernel_rows` meets its contract: before each turn the array holds the rows passed. Assumes nothing.
-use mathlib.Core.Path.{◌≡◌, refl}
+use mathlib.Core.Path.{refl}
 use native.Mathlib.Numerals.{add-one}
 use native.Mathlib.Omega.{arith}
 use lib.Ieee.{of_bits}
@@ -12,7 +12,7 @@ use Rattle.lane_kernels.proofs.kernels.kernel_rows.Goals as goal
 
 pub loop-i-init : goal.loop-i-init
 unfolding grown of_bits
-loop-i-init c = (omega arith, refl)
+loop-i-init c = refl
 
 pub distance-r_sq-requires : goal.distance-r_sq-requires
 distance-r_sq-requires c = (search rules, (let k = row-end c.loop-i.i c.args.n c.args.d c.loop-i-test.true in omega arith), search rules)
@@ -22,7 +22,4 @@ loop-i-preserved c =
     let g = c.args in
     let i = c.loop-i.i in
     let k = row-end i g.n g.d (omega arith) in
-    (search rules, rw (c.loop-i.invariant.1, add-one i) (row-set _ i c.decays.result (omega arith) (kernel-row g.points.now g.x.now g.d g.lengthscales.now i (omega arith) c.requires.3 _ c.decays.result c.distance-r_sq.ensures c.decays.ensures)))
-
-pub returns : goal.returns
-returns c = let e : c.loop-i.i ≡ c.args.n = omega arith in rw (c.loop-i.invariant.1, e)
+    rw (c.loop-i.invariant, add-one i) (row-set _ i c.decays.result (omega arith) (kernel-row g.points.now g.x.now g.d g.lengthscales.now i (omega arith) c.requires.3 _ c.decays.result c.distance-r_sq.ensures c.decays.ensures))

@@ -1,11 +1,7 @@
-use Prim.Native.Nat.{◌-◌, ◌≤◌}
 use mathlib.Core.Path.{◌≡◌}
 use Rattle.lanes.specs.Rows.{rows_of}
 use Rattle.lane_kernels.specs.Kernels.{kernel_rows_of}
 use Rattle.lane_kernels.proofs.kernels.kernel_rows.Given as goal
 
 abbrev pub invariant-loop-i : goal.invariant-loop-i
-invariant-loop-i l = (l.i ≤ l.n) × (l.out ≡ rows_of (kernel_rows_of l.points l.x l.i l.d l.lengthscales))
-
-abbrev pub decreases-loop-i : goal.decreases-loop-i
-decreases-loop-i l = l.n - l.i
+invariant-loop-i l = (l.out ≡ rows_of (kernel_rows_of l.points l.x l.i l.d l.lengthscales))

@@ -1,16 +1,11 @@
 -- `lanes::solving::solve` meets its contract: forward, then backward. Assumes nothing.
 use mathlib.Core.Path.{ap}
 use native.Mathlib.Omega.{arith}
-use borrow.Author.Tests.{le-leb, lt-leb}
-use lib.Ieee.{of_bits}
+use borrow.Author.Tests.{le-leb}
 use Rattle.lanes.specs.Rows.{rows_of}
 use Rattle.lanes.specs.Solving.{solve_lanes_of}
 use Rattle.lanes.proofs.Solved.{solved-lanes}
 use Rattle.lanes.proofs.solving.solve.Goals as goal
-
-pub returns-then-n-gt100 : goal.returns-then-n-gt100
-unfolding solve_lanes_of of_bits
-returns-then-n-gt100 c = rw (lt-leb c.args.n 100 (omega arith))
 
 pub returns : goal.returns
 unfolding solve_lanes_of

@@ -2,31 +2,26 @@
 use mathlib.Core.Path.{◌≡◌, refl}
 use native.Mathlib.Numerals.{add-one}
 use native.Mathlib.Omega.{arith}
-use borrow.Author.Tests.{le-leb, lt-leb}
+use borrow.Author.Tests.{le-leb}
 use lib.Ieee.{binary64, mul, of_bits}
 use Rattle.lanes.specs.Rows.{cell}
 use Rattle.lanes.specs.Sums.{dot_lanes_of}
 use Rattle.lanes.proofs.Summed.{summed-none, summed-more}
-use borrow.Author.Rules.{rules}
 use Rattle.lanes.proofs.sums.dot.Goals as goal
-
-pub returns-then-n-gt100 : goal.returns-then-n-gt100
-unfolding dot_lanes_of of_bits
-returns-then-n-gt100 c = rw (lt-leb c.args.n 100 (omega arith))
 
 pub loop-i-init : goal.loop-i-init
 unfolding of_bits
-loop-i-init c = (omega arith, summed-none _)
+loop-i-init c = (summed-none _)
 
 pub loop-i-preserved : goal.loop-i-preserved
 loop-i-preserved c =
     let g = c.args in
     let i = c.loop-i.i in
-    (search rules, rw (add-one i) (summed-more i (λ p k. mul binary64 (cell g.a.now k p) (cell g.b.now k p)) _ c.loop-i.s c.more-s.result (λ p h. refl) c.loop-i.invariant.1 c.more-s.ensures))
+    rw (add-one i) (summed-more i (λ p k. mul binary64 (cell g.a.now k p) (cell g.b.now k p)) _ c.loop-i.s c.more-s.result (λ p h. refl) c.loop-i.invariant c.more-s.ensures)
 
 pub returns : goal.returns
 unfolding dot_lanes_of
 returns c =
     let g = c.args in
     let e : c.loop-i.i ≡ g.n = omega arith in
-    rw (c.loop-i.invariant.1, le-leb g.n 100 (omega arith), e)
+    rw (c.loop-i.invariant, le-leb g.n 100 (omega arith), e)

@@ -1,4 +1,3 @@
-use Prim.Native.Nat.{◌-◌, ◌≤◌}
 use lib.ListN.{get_or}
 use lib.Ieee.{nan, binary64, mul}
 use Rattle.lanes.specs.Rows.{cell}
@@ -6,7 +5,4 @@ use Rattle.lanes.proofs.Summed.{Summed}
 use Rattle.lanes.proofs.sums.dot_each.Given as goal
 
 abbrev pub invariant-loop-i : goal.invariant-loop-i
-invariant-loop-i l = (l.i ≤ l.n) × Summed l.i (λ p k. mul binary64 (cell l.a k p) (get_or l.b k nan)) l.s
-
-abbrev pub decreases-loop-i : goal.decreases-loop-i
-decreases-loop-i l = l.n - l.i
+invariant-loop-i l = Summed l.i (λ p k. mul binary64 (cell l.a k p) (get_or l.b k nan)) l.s

@@ -3,7 +3,7 @@ use mathlib.Core.Path.{◌∙◌}
 use Rattle.std.proofs.Common.{rules, tests}
 use Rattle.std.proofs.lemmas.Iterator.{YieldsList-from_slice}
 use Rattle.std.proofs.lemmas.Iterator.Search.{any_from_yields_List}
-use Rattle.arith.proofs.Elements.{any-every}
+use Rattle.arith.proofs.Passing.{any_every}
 use Rattle.param_mapping.specs.declared.Mapped.{Mapped}
 use Rattle.param_mapping.specs.Mapping.{none, is_mapped, consumed_of}
 use Rattle.param_mapping.proofs.matching.consumed.Goals as goal
@@ -13,4 +13,4 @@ unfolding consumed_of
 returns c =
     let test = λ (m : Mapped). is_mapped c.args.id m in
     any_from_yields_List test _ _ c.any.result c.any.ensures.ran (YieldsList-from_slice c.args.before.now cc) (λ x b q k. search (rules, tests))
-    ∙ any-every test none c.args.before.now
+    ∙ any_every test c.args.before.now none

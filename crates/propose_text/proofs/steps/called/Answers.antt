@@ -1,7 +1,5 @@
 -- `propose_text::steps::called` meets its contract. Assumes nothing.
-use Prim.Native.Nat.{◌-◌}
 use mathlib.Core.Path.{◌≡◌}
-use native.Mathlib.Nat.{sub-zero}
 use lib.ListN.{length, take}
 use Rattle.propose_text.proofs.Held.{held-part}
 use borrow.Author.Rules.{rules}
@@ -11,5 +9,5 @@ pub returns : goal.returns
 returns c =
     let a = c.args in
     let l : length a.history.now ≡ 8192 = search rules in
-    let e : take (c.held-n.result - 0) a.history.now ≡ take a.count a.history.now = rw (sub-zero, c.held-n.ensures) (held-part a.count a.history.now l) in
+    let e : take c.held-n.result a.history.now ≡ take a.r.now.count a.history.now = rw c.held-n.ensures (held-part a.r.now.count a.history.now l) in
     rw e at c.sample.ensures

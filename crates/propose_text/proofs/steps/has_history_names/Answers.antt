@@ -2,8 +2,8 @@
 use borrow.Author.Tests.{le-leb, lt-leb}
 use Rattle.propose_text.proofs.steps.has_history_names.Goals as goal
 
-pub returns-then-settings-le20 : goal.returns-then-settings-le20
-returns-then-settings-le20 c = rw (le-leb _ 20 c.if-settings-le20.true) c.is_history.ensures
+pub returns-then-slots-le20 : goal.returns-then-slots-le20
+returns-then-slots-le20 c = rw (le-leb _ 20 c.if-slots-le20.true) c.is_history.ensures
 
-pub returns-else-settings-le20 : goal.returns-else-settings-le20
-returns-else-settings-le20 c = rw (lt-leb _ 20 c.if-settings-le20.false)
+pub returns-else-slots-le20 : goal.returns-else-slots-le20
+returns-else-slots-le20 c = rw (lt-leb _ 20 c.if-slots-le20.false)

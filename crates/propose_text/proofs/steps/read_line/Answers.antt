@@ -45,4 +45,4 @@ pub returns-in-Ended : goal.returns-in-Ended
 unfolding step_of
 returns-in-Ended c =
     let a = c.args in
-    c.awaiting.ensures a.history.now ∙ served a.r a.history.now a.line.now c.in-Ended.is
+    rw c.in-Ended.is at (c.awaiting.ensures a.history.now) ∙ served a.r a.history.now a.line.now c.in-Ended.is

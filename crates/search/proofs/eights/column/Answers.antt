@@ -7,21 +7,20 @@ use lib.Ieee.{binary64, of_bits}
 use Rattle.arith.specs.Lists.{grown}
 use Rattle.arith.proofs.Lists.{grown-set, grown-filled-set, eight-filled}
 use Rattle.rng_util.specs.Draws.{unit_draw_of}
-use borrow.Author.Rules.{rules}
 use Rattle.search.proofs.eights.column.Goals as goal
 
 pub loop-p-init : goal.loop-p-init
 unfolding grown of_bits
-loop-p-init c = (omega arith, refl, refl)
+loop-p-init c = (refl, refl)
 
 pub loop-p-preserved : goal.loop-p-preserved
 loop-p-preserved c =
     let l = c.loop-p in
-    (search rules, rw (c.unit_float-u.ensures, l.invariant.1, add-one l.p) (grown-set 8 _ l.p (omega arith)), rw (c.unit_float-u.ensures, l.invariant.2, add-one l.p) (grown-filled-set 0 8 _ l.p (omega arith)))
+    (rw (c.unit_float-u.ensures, l.invariant.0, add-one l.p) (grown-set 8 _ l.p (omega arith)), rw (c.unit_float-u.ensures, l.invariant.1, add-one l.p) (grown-filled-set 0 8 _ l.p (omega arith)))
 
 pub returns : goal.returns
 returns c =
     let l = c.loop-p in
     let w = c.args.words.now in
     let e : l.p ≡ 8 = omega arith in
-    rw (l.invariant.1, l.invariant.2, eight-filled (of_bits binary64 0) (λ p. (unit_draw_of (get_or w p 0)).value) l.p e, eight-filled 0 (λ p. (unit_draw_of (get_or w p 0)).next) l.p e)
+    rw (l.invariant.0, l.invariant.1, eight-filled (of_bits binary64 0) (λ p. (unit_draw_of (get_or w p 0)).value) l.p e, eight-filled 0 (λ p. (unit_draw_of (get_or w p 0)).next) l.p e)

@@ -1,4 +1,4 @@
-use Prim.Native.Nat.{◌-◌, ◌≤◌}
+use Prim.Native.Nat.{}
 use mathlib.Core.Path.{◌≡◌}
 use lib.ListN.{get_or}
 use Rattle.arith.specs.Lists.{list_of, filled, padded}
@@ -6,7 +6,4 @@ use Rattle.rng_util.specs.Draws.{unit_draw_of}
 use Rattle.search.proofs.eights.column.Given as goal
 
 abbrev pub invariant-loop-p : goal.invariant-loop-p
-invariant-loop-p l = (l.p ≤ 8) × (l.values ≡ padded 8 (list_of (λ p. (unit_draw_of (get_or l.words p 0)).value) l.p)) × (l.next ≡ filled 0 8 (list_of (λ p. (unit_draw_of (get_or l.words p 0)).next) l.p))
-
-abbrev pub decreases-loop-p : goal.decreases-loop-p
-decreases-loop-p l = 8 - l.p
+invariant-loop-p l = (l.values ≡ padded 8 (list_of (λ p. (unit_draw_of (get_or l.words p 0)).value) l.p)) × (l.next ≡ filled 0 8 (list_of (λ p. (unit_draw_of (get_or l.words p 0)).next) l.p))

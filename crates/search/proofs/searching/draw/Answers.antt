@@ -24,14 +24,11 @@ unit-step j w h = rw (nonzero-test (moved_of j w) (moved-nonzero j w h))
 
 pub loop-j-init : goal.loop-j-init
 unfolding grown moved_of of_bits
-loop-j-init c = (omega arith, refl, refl)
+loop-j-init c = (refl, refl)
 
 pub loop-j-preserved : goal.loop-j-preserved
 loop-j-preserved c =
     let l = c.loop-j in
     let w = c.args.word in
-    let e = c.unit_float-u.ensures ∙ ap unit_draw_of l.invariant.2 ∙ unit-step l.j w (nonzero (goal.at.loop-j-preserved c).Start) in
-    (search rules, rw (e, l.invariant.1, add-one l.j) (grown-set 20 (λ xs j. unit_of (moved_of (suc j) w)) l.j (omega arith)), rw (e, add-one l.j))
-
-pub returns : goal.returns
-returns c = let e : c.loop-j.j ≡ c.args.d = omega arith in rw (c.loop-j.invariant.1, c.loop-j.invariant.2, e)
+    let e = c.unit_float-u.ensures ∙ ap unit_draw_of l.invariant.1 ∙ unit-step l.j w (nonzero (goal.at.loop-j-preserved c).Start) in
+    (rw (e, l.invariant.0, add-one l.j) (grown-set 20 (λ xs j. unit_of (moved_of (suc j) w)) l.j (omega arith)), rw (e, add-one l.j))

@@ -1,4 +1,4 @@
-use Prim.Native.Nat.{◌-◌, ◌≤◌}
+use Prim.Native.Nat.{}
 use mathlib.Core.Path.{◌≡◌}
 use Rattle.arith.specs.Lists.{padded}
 use Rattle.rng_util.specs.Generator.{moved_of}
@@ -7,7 +7,4 @@ use Rattle.search.proofs.searching.draw.Given as goal
 
 abbrev pub invariant-loop-j : goal.invariant-loop-j
 invariant-loop-j l =
-    (l.j ≤ l.d) × (l.x ≡ padded 20 (point_of l.j l.word)) × (l.next ≡ moved_of l.j l.word)
-
-abbrev pub decreases-loop-j : goal.decreases-loop-j
-decreases-loop-j l = l.d - l.j
+    (l.x ≡ padded 20 (point_of l.j l.word)) × (l.next ≡ moved_of l.j l.word)

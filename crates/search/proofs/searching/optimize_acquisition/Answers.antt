@@ -15,8 +15,8 @@ use Rattle.search.specs.declared.Searched.{Searched}
 use Rattle.search.specs.Earliest.{Earliest}
 use Rattle.search.specs.Search.{start_of, advance_of, found_of, search_domain, optimize_acquisition_of}
 use Rattle.prediction.proofs.Domain.{model-counts}
-use Rattle.search.proofs.Earliest.{search-earliest}
 use Rattle.gp_model.proofs.Table.{table-small}
+use Rattle.search.proofs.Earliest.{search-earliest}
 use borrow.Author.Rules.{rules}
 use Rattle.search.proofs.searching.optimize_acquisition.Goals as goal
 use Rattle.search.proofs.searching.optimize_acquisition.Goals.{Start, Then-word-ne0}
@@ -32,11 +32,15 @@ word c h = (omega arith, search rules)
 pub halves-best_x-requires : goal.halves-best_x-requires
 halves-best_x-requires c = (counts (goal.at.halves-best_x-requires c).Then-word-ne0).3
 
+pub invariant_of-lent : goal.invariant_of-lent
+invariant_of-lent c =
+    let k = counts (goal.at.invariant_of-lent c).Then-word-ne0 in
+    let small = table-small c.args.m.n c.args.m.d k.1 k.3 in
+    record { fits = (k.1, k.3, omega arith, omega arith, omega arith) }
+
 pub advance-s-requires : goal.advance-s-requires
 advance-s-requires c =
-    let k = counts (goal.at.advance-s-requires c).Then-word-ne0 in
-    let s = table-small c.args.m.n c.args.m.d k.1 k.3 in
-    (k.1, k.3, omega arith, omega arith, omega arith, word (goal.at.advance-s-requires c).Start c.if-word-ne0.true)
+    word (goal.at.advance-s-requires c).Start c.if-word-ne0.true
 
 -- the answer, and that it is the earliest maximum
 abbrev Right : Model → ℕ → ℕ → ℕ → Searched → Type 0
@@ -56,25 +60,25 @@ refused m dims candidates w t = right m dims candidates w (record { number = 11;
 
 domain : (c : Then-word-ne0) → let a = c.args in search_domain a.m a.n_dims a.word ≡ true
 unfolding search_domain
-domain c = rw (sym c.counts_fit.ensures, c.if-counts_fit.true, eq-eqb _ _ c.if-n_dims-d.true, ne_eqb _ 0 c.if-word-ne0.true)
+domain c = rw (sym c.counts_fit.ensures, c.if-counts_fit.true, eq-eqb _ _ c.if-n_dims-m.true, ne_eqb _ 0 c.if-word-ne0.true)
 
 pub returns-then-word-ne0 : goal.returns-then-word-ne0
 unfolding div neg of_bits
 returns-then-word-ne0 c =
     let a = c.args in
-    let p = accepted a.m a.n_dims a.n_candidates a.word c.advance-s.result (domain (goal.at.returns-then-word-ne0 c).Then-word-ne0) (rw (c.advance-s.ensures, c.halves-best_x.ensures, c.if-n_dims-d.true)) in
+    let p = accepted a.m a.n_dims a.n_candidates a.word c.advance-s.result (domain (goal.at.returns-then-word-ne0 c).Then-word-ne0) (rw (c.advance-s.ensures, c.halves-best_x.ensures, c.if-n_dims-m.true)) in
     record { is = p.0; earliest = p.1 }
 
 pub returns-else-word-ne0 : goal.returns-else-word-ne0
 returns-else-word-ne0 c =
     let a = c.args in
-    let p = refused a.m a.n_dims a.n_candidates a.word (unfold search_domain in rw (sym c.counts_fit.ensures, c.if-counts_fit.true, eq-eqb _ _ c.if-n_dims-d.true, c.if-word-ne0.false)) in
+    let p = refused a.m a.n_dims a.n_candidates a.word (unfold search_domain in rw (sym c.counts_fit.ensures, c.if-counts_fit.true, eq-eqb _ _ c.if-n_dims-m.true, c.if-word-ne0.false)) in
     record { is = p.0; earliest = p.1 }
 
-pub returns-else-n_dims-d : goal.returns-else-n_dims-d
-returns-else-n_dims-d c =
+pub returns-else-n_dims-m : goal.returns-else-n_dims-m
+returns-else-n_dims-m c =
     let a = c.args in
-    let p = refused a.m a.n_dims a.n_candidates a.word (unfold search_domain in rw (sym c.counts_fit.ensures, c.if-counts_fit.true, ne_eqb _ _ c.if-n_dims-d.false)) in
+    let p = refused a.m a.n_dims a.n_candidates a.word (unfold search_domain in rw (sym c.counts_fit.ensures, c.if-counts_fit.true, ne_eqb _ _ c.if-n_dims-m.false)) in
     record { is = p.0; earliest = p.1 }
 
 pub returns-else-counts_fit : goal.returns-else-counts_fit

@@ -2,13 +2,13 @@
 use Prim.Native.Nat.{ℕ, ◌<◌}
 use mathlib.Core.Path.{◌∙◌}
 use lib.ListN.{get_or}
-use Rattle.std.proofs.Common.{rules, tests}
+use Rattle.std.proofs.Common.{refl, rules, tests}
 use Rattle.std.proofs.lemmas.Iterator.{YieldsList-from_slice}
 use Rattle.std.proofs.lemmas.List.{get_or_default}
 use Rattle.std.proofs.lemmas.Iterator.Adapters.{serves_from_places}
 use Rattle.std.proofs.lemmas.Iterator.Search.{all_from_yields_List}
 use native.Mathlib.Omega.{arith}
-use Rattle.arith.proofs.Elements.{all-every}
+use Rattle.arith.proofs.Passing.{all_every}
 use Rattle.param_mapping.specs.Mapping.{none}
 use Rattle.history.specs.Training.{covers_of, trains_of}
 use Rattle.history.proofs.columns.Columns.trains.Goals as goal
@@ -27,4 +27,4 @@ returns c =
     let s = c.args.self.now in
     let test = λ (j : ℕ). covers_of row.slots row.words.now (get_or s.mapping.now j none) in
     all_from_yields_List test _ _ c.all.result c.all.ensures.ran (YieldsList-from_slice s.places.now cc) (λ x b q k. search (rules, tests))
-    ∙ all-every test 0 s.places.now
+    ∙ all_every test s.places.now 0 _ refl

@@ -1,8 +1,0 @@
--- `common::grid::raised_to` meets its contract. Assumes nothing.
-use Rattle.common.proofs.grid.raised_to.Goals as goal
-
-pub returns-then-v-low : goal.returns-then-v-low
-returns-then-v-low c = rw c.if-v-low.true
-
-pub returns-else-v-low : goal.returns-else-v-low
-returns-else-v-low c = rw c.if-v-low.false
