@@ -11,6 +11,7 @@ use lib.ListN.{get_or, take, length-drop}
 use lib.Ieee.Bits.{is_true}
 use lib.Ieee.Fits.{and_i}
 use borrow.Author.Tests.{eq-eqb}
+use Rattle.refusal.specs.Numbers.{number_of as answer_number}
 use Rattle.arith.specs.Lists.{every}
 use Rattle.distribution.specs.declared.Distribution.{Distribution}
 use Rattle.distribution.specs.declared.ParamValue.{ParamValue}
@@ -122,7 +123,7 @@ module _ (settings : Settings) (dims : List DimensionInfo) (k word : ℕ) (g : R
   unfolding view_of
   training = training-number settings.slots dims k h ∙ number
 
-  fit : T (leb 1 view.training.d) → T (fit_number (fit_for view.training settings.noise_variance).number)
+  fit : T (leb 1 view.training.d) → T (fit_number (answer_number (fit_for view.training settings.noise_variance)))
   unfolding view_of
   fit m =
       let v = training_of settings.slots dims k h in
@@ -150,7 +151,7 @@ module _ (s : Sampler) (g : Well s) (h : List ℕ) (r : refusal_of s.settings.sl
   values_of : InRanges s.dimensions s.n_dims (compute_candidate_of s.settings s.dimensions s.n_dims s.word (served_history s h))
   values_of = values-made s.settings s.dimensions s.n_dims s.word (ready s g) (served_history s h) (served-accepted s h g.ok.settings r)
 
-  fit_of_lem : T (fit_made s h) → T (fit_number (fit_answer s h).number)
+  fit_of_lem : T (fit_made s h) → T (fit_number (answer_number (fit_answer s h)))
   fit_of_lem m = fit s.settings s.dimensions s.n_dims s.word (ready s g) (served_history s h) (served-accepted s h g.ok.settings r) (search parts)
 
 pub nothing-refused : NothingRefused
