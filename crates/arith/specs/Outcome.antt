@@ -13,9 +13,14 @@ value_of (Ok x) = x
 value_of (Err r) = nan
 
 -- what is made of a value; a refusal is passed on
-abbrev pub made : (Float → Float) → Result Float Refusal → Result Float Refusal
+abbrev pub made : {A B : Type 0} → (A → B) → Result A Refusal → Result B Refusal
 made f (Ok x) = Ok (f x)
 made f (Err r) = Err r
+
+-- what is answered of a value; a refusal is passed on
+abbrev pub and_then : {A B : Type 0} → Result A Refusal → (A → Result B Refusal) → Result B Refusal
+and_then (Ok x) f = f x
+and_then (Err r) f = Err r
 
 -- the first answer where the test holds, else the second
 abbrev pub pick : Bool → Result Float Refusal → Result Float Refusal → Result Float Refusal

@@ -1,20 +1,19 @@
 -- The array of the backward solution: the start of z, then the unknowns that are known, then zeros. Assumes nothing.
 use mathlib.Core.Path.{◌≡◌, refl, sym, ap, ◌∙◌}
-use mathlib.Core.Bool.{Bool, true, false, cond}
-use mathlib.Core.List.{List, [], ◌∷◌, ◌++◌, append-nil}
+use mathlib.Core.List.{List, ◌∷◌, ◌++◌, append-nil}
 use Prim.Native.Nat.{ℕ, zero, suc, ◌+◌, ◌-◌, ◌≤◌, ◌<◌}
 use native.Mathlib.Numerals.{add-one}
 use native.Mathlib.Omega.{arith}
-use borrow.Author.Tests.{leb-true}
-use lib.Dec.{leb}
+use borrow.Author.Tests.{le-leb}
+use Rattle.std.specs.Prelude.{Result, Ok}
+use Rattle.refusal.specs.declared.Refusal.{Refusal}
 use lib.ListN.{length, get_or, set, take, length-append, length-take}
 use lib.Seq.{take_all, take-suc, append_snoc, length-take-le, get_or_at, get_or-append-add, set_at, set-append_left}
 use lib.Ieee.{Float, nan, binary64, sub, mul, div}
 use Rattle.arith.specs.Lists.{padded}
 use Rattle.arith.proofs.Lists.{padded-at, padded-length}
-use Rattle.factor.specs.declared.Solved.{Solved}
 use Rattle.factor.specs.Triangle.{at, entry, less_of}
-use Rattle.factor.specs.Solve.{forward_of, backward_of, solve_of}
+use Rattle.factor.specs.Solve.{forward_of, backward_of, solution_of, solve_of}
 use Rattle.factor.proofs.Triangle.{less-same}
 
 -- m unknowns are known
@@ -78,10 +77,14 @@ back-next l z x n m i v hz hi hx hv =
     rw (hv, hx, e, back-here 100 z xs i h) (ap (λ (s : Float). set y i (div binary64 s (entry l i i))) same ∙ back-set 100 z xs i h _)
 
 -- a solution fills its array
-pub solve-length : (l b : List Float) (n : ℕ) → length (solve_of l b n).x ≡ 100
+pub solve-length : (l b : List Float) (n : ℕ) → n ≤ 100 → length (solution_of l b n) ≡ 100
+solve-length l b n h = padded-length 100 (backward_of l (forward_of l b n) n n) (rw (back-length l (forward_of l b n) n n) h)
+
+-- up to a hundred rows there is a solution
+pub solves : (l b : List Float) (n : ℕ) → n ≤ 100 → solve_of l b n ≡ Ok (solution_of l b n)
 unfolding solve_of
-solve-length l b n = cond-length (leb n 100) refl
-  where
-    cond-length : (t : Bool) → leb n 100 ≡ t → length (cond {A = Solved} t (record { number = 0; x = padded 100 (backward_of l (forward_of l b n) n n) }) (record { number = 11; x = padded 100 [] })).x ≡ 100
-    cond-length true e = padded-length 100 (backward_of l (forward_of l b n) n n) (rw (back-length l (forward_of l b n) n n) (leb-true n 100 e))
-    cond-length false e = padded-length 100 [] (omega arith)
+solves l b n h = rw (le-leb n 100 h)
+
+-- what is answered then is it
+pub solved : (l b : List Float) (n : ℕ) (r : Result (List Float) Refusal) (x : List Float) → n ≤ 100 → r ≡ solve_of l b n → r ≡ Ok x → x ≡ solution_of l b n
+solved l b n r x h e k = let s = solves l b n h in cc

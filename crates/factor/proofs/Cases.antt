@@ -1,4 +1,7 @@
 -- The definitions at a matrix of two rows, 4 2 and 2 5, computed: it is L times its transpose, where L has the rows 2 and 1 2. Assumes nothing.
+use Rattle.std.specs.Prelude.{Ok, Err}
+use Rattle.refusal.specs.declared.Refusal.TheVariants.{OutOfDomain, Pivot}
+use Rattle.arith.specs.Outcome.{made}
 use Prim.Native.Nat.{ℕ, ◌+◌, ◌*◌}
 use mathlib.Core.Path.{◌≡◌, refl}
 use mathlib.Core.Bool.{true, false}
@@ -23,17 +26,16 @@ factor = float 2 ∷ float 1 ∷ float 2 ∷ []
 
 abbrev Factored : Type 0
 Factored =
-    ((cholesky_of matrix 2).number ≡ 0)
-    × (take 3 (cholesky_of matrix 2).l ≡ factor)
+    (made (take 3) (cholesky_of matrix 2) ≡ Ok factor)
     -- a pivot that is 0
-    × ((cholesky_of (float 0 ∷ []) 1).number ≡ 13)
+    × (cholesky_of (float 0 ∷ []) 1 ≡ Err Pivot)
 
 factored : Factored
 unfolding cholesky_of columns_of rows_of less_of grown every sqrt_of root_of isqrt of_bits of_int round sub mul div lt
-factored = (refl, refl, refl)
+factored = (refl, refl)
 
 -- the right-hand side 6 7 is the matrix times 1 1
-solved : take 2 (solve_of factor (float 6 ∷ float 7 ∷ []) 2).x ≡ (float 1 ∷ float 1 ∷ [])
+solved : made (take 2) (solve_of factor (float 6 ∷ float 7 ∷ []) 2) ≡ Ok (float 1 ∷ float 1 ∷ [])
 unfolding solve_of backward_of less_of grown of_bits of_int round sub mul div
 solved = refl
 
@@ -66,8 +68,8 @@ one_by_one = refl
 -- over a hundred rows
 abbrev Over : Type 0
 Over =
-    ((cholesky_of [] 101).number ≡ 11)
-    × ((solve_of [] [] 101).number ≡ 11)
+    (cholesky_of [] 101 ≡ Err OutOfDomain)
+    × (solve_of [] [] 101 ≡ Err OutOfDomain)
 
 over : Over
 unfolding cholesky_of solve_of

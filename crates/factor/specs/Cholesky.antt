@@ -1,10 +1,11 @@
 -- "Cholesky by columns: subtract products in index order, pivot > 0, sqrt, divide." (Rasmussen and Williams, appendix A.4: a matrix is L times its transpose.) Definitions only.
-use Rattle.std.specs.Prelude.{ℕ, zero, suc, Bool, cond, List, [], eqb, leb, Float}
+use Rattle.std.specs.Prelude.{ℕ, zero, suc, Bool, cond, List, eqb, leb, Float, Result, Ok, Err}
 use Rattle.std.specs.Float.{binary64}
 use Rattle.std.specs.Float.Ieee.{div, lt, of_bits}
+use Rattle.refusal.specs.declared.Refusal.{Refusal}
+use Rattle.refusal.specs.declared.Refusal.TheVariants.{OutOfDomain, Pivot}
 use Rattle.arith.specs.Lists.{every, padded}
 use Rattle.root.specs.Sqrt.{sqrt_of}
-use Rattle.factor.specs.declared.Factor.{Factor}
 use Rattle.factor.specs.Triangle.{entry, rows_of, less_of}
 
 -- what is left of the matrix's entry (i, j), by the factor's columns before j
@@ -28,12 +29,6 @@ factor_of a i k = columns_of a (suc k) i k
 abbrev pub positive : (ℕ → ℕ → Float) → ℕ → Bool
 positive a n = every n (λ j. lt (of_bits binary64 0) (rest_of a (columns_of a j) j j))
 
-abbrev pub refused_of : ℕ → Factor
-refused_of number = record { number = number; l = padded 5050 [] }
-
 -- of the first n rows of a packed matrix: 11 over 100 rows, 13 where a pivot is not above 0
-unfoldable pub cholesky_of : List Float → ℕ → Factor
-cholesky_of a n =
-    cond (leb n 100)
-    (cond (positive (entry a) n) (record { number = 0; l = padded 5050 (rows_of (factor_of (entry a)) n) }) (refused_of 13))
-    (refused_of 11)
+unfoldable pub cholesky_of : List Float → ℕ → Result (List Float) Refusal
+cholesky_of a n = cond (leb n 100) (cond (positive (entry a) n) (Ok (padded 5050 (rows_of (factor_of (entry a)) n))) (Err Pivot)) (Err OutOfDomain)

@@ -1,9 +1,10 @@
 -- "Solve is forward then backward: each subtracts its products one by one by rising index, then divides." (Rasmussen and Williams, algorithm 2.1: the transpose of L, under L, under the right-hand side.) Definitions only.
-use Rattle.std.specs.Prelude.{ℕ, zero, suc, ◌+◌, ◌-◌, cond, List, [], ◌∷◌, leb, get_or, Float}
+use Rattle.std.specs.Prelude.{ℕ, zero, suc, ◌+◌, ◌-◌, cond, List, [], ◌∷◌, leb, get_or, Float, Result, Ok, Err}
 use Rattle.std.specs.Float.{nan, binary64}
 use Rattle.std.specs.Float.Ieee.{div}
+use Rattle.refusal.specs.declared.Refusal.{Refusal}
+use Rattle.refusal.specs.declared.Refusal.TheVariants.{OutOfDomain}
 use Rattle.arith.specs.Lists.{grown, padded}
-use Rattle.factor.specs.declared.Solved.{Solved}
 use Rattle.factor.specs.Triangle.{entry, less_of}
 
 -- z with L z = b: each from those before it
@@ -22,9 +23,10 @@ unfoldable pub backward_of : List Float → List Float → ℕ → ℕ → List 
 backward_of l z n zero = []
 backward_of l z n (suc m) = backward_at l z (n - suc m) m (backward_of l z n m) ∷ backward_of l z n m
 
--- x with L Lᵀ x = b, of the first n rows: 11 over 100 rows
-unfoldable pub solve_of : List Float → List Float → ℕ → Solved
-solve_of l b n =
-    cond (leb n 100)
-    (record { number = 0; x = padded 100 (backward_of l (forward_of l b n) n n) })
-    (record { number = 11; x = padded 100 [] })
+-- x with L Lᵀ x = b, of the first n rows, in an array of a hundred
+abbrev pub solution_of : List Float → List Float → ℕ → List Float
+solution_of l b n = padded 100 (backward_of l (forward_of l b n) n n)
+
+-- the same: 11 over 100 rows
+unfoldable pub solve_of : List Float → List Float → ℕ → Result (List Float) Refusal
+solve_of l b n = cond (leb n 100) (Ok (solution_of l b n)) (Err OutOfDomain)

@@ -4,9 +4,10 @@ ghost use Rattle.std.specs.Float.{binary64};
 ghost use Rattle.std.specs.Float.Ieee.{lt, of_bits};
 ghost use Rattle.arith.specs.Lists.{list_of, padded};
 ghost use Rattle.factor.specs.Triangle.{entry, less_of, rows_of};
-ghost use Rattle.factor.specs.Cholesky.{columns_of, factor_of, rest_of, positive, refused_of, cholesky_of};
+ghost use Rattle.factor.specs.Cholesky.{columns_of, factor_of, rest_of, positive, cholesky_of};
 
-use crate::{Factor, place};
+use crate::place;
+use refusal::Refusal;
 
 // a less the products of the rows i and j before column j.
 // Kept: this loop, next's and unknown's read other places each, in one line; closures for the places are longer.
@@ -66,27 +67,17 @@ fn rows(l: &mut [f64; 5050], a: &[f64; 5050], n: usize) -> bool
     true
 }
 
-// A refusal: its number, with a triangle of zeros.
-fn refused(number: u64) -> Factor
-    ensures { result ≡ refused_of number }
-{
-    Factor {
-        number,
-        l: [0.0; 5050],
-    }
-}
-
 // The factor of the first n rows of a packed matrix: 11 over 100 rows, 13 where a pivot is not above 0.
 #[tactic(auto, unfolding(crate::specs::Cholesky::cholesky_of))]
-pub fn cholesky(a: &[f64; 5050], n: usize) -> Factor
+pub fn cholesky(a: &[f64; 5050], n: usize) -> Result<[f64; 5050], Refusal>
     ensures { result ≡ cholesky_of a.now n }
 {
     if n > 100 {
-        return refused(11);
+        return Err(Refusal::OutOfDomain);
     }
     let mut l = [0.0; 5050];
     if !rows(&mut l, a, n) {
-        return refused(13);
+        return Err(Refusal::Pivot);
     }
-    Factor { number: 0, l }
+    Ok(l)
 }

@@ -11,20 +11,7 @@ ghost use Rattle.factor.specs.Solve.{forward_at, forward_of, backward_of, solve_
 pub mod decompose;
 
 pub use decompose::cholesky;
-
-// A factor; number is 0, or the refusal's number with a triangle of zeros.
-#[derive(Drop)]
-pub struct Factor {
-    pub number: u64,
-    pub l: [f64; 5050],
-}
-
-// A solution; number is 0, or the refusal's number with zeros.
-#[derive(Drop)]
-pub struct Solved {
-    pub number: u64,
-    pub x: [f64; 100],
-}
+use refusal::Refusal;
 
 // Where row i, column k of a packed triangle lies.
 #[tactic(auto, using(crate::proofs::Triangle::at_room))]
@@ -83,17 +70,14 @@ fn backward(l: &[f64; 5050], x: &mut [f64; 100], n: usize)
     }
 }
 
-// x with L Lᵀ x = b, of the first n rows.
-pub fn solve(l: &[f64; 5050], b: &[f64; 100], n: usize) -> Solved
+// x with L Lᵀ x = b, of the first n rows: 11 over 100 rows.
+pub fn solve(l: &[f64; 5050], b: &[f64; 100], n: usize) -> Result<[f64; 100], Refusal>
     ensures { result ≡ solve_of l.now b.now n }
 {
     if n > 100 {
-        return Solved {
-            number: 11,
-            x: [0.0; 100],
-        };
+        return Err(Refusal::OutOfDomain);
     }
     let mut x = forward(l, b, n);
     backward(l, &mut x, n);
-    Solved { number: 0, x }
+    Ok(x)
 }

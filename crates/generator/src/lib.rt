@@ -4,13 +4,14 @@
 ghost use Rattle.std.specs.Prelude.{◌≡◌};
 ghost use Rattle.rng_util.specs.Draws.{word_draw_of, unit_draw_of, whole_draw_of};
 ghost use Rattle.common.specs.Random.{sample_random_of};
-ghost use Rattle.search.specs.Search.{optimize_acquisition_of};
+ghost use Rattle.search.specs.Search.{optimize_acquisition_of, word_after};
 
 use common::RandomDraw;
 use distribution::Distribution;
 use gp_model::Model;
+use refusal::Refusal;
 use rng_util::{UnitDraw, WholeDraw, WordDraw};
-use search::Searched;
+use search::Candidate;
 
 #[derive(Drop)]
 pub struct Generator {
@@ -59,10 +60,10 @@ pub fn optimize_acquisition(
     m: Model,
     n_dims: usize,
     n_candidates: u64,
-) -> Searched
-    ensures { (result ≡ optimize_acquisition_of m n_dims n_candidates g.old.word) × (g.new.word ≡ (optimize_acquisition_of m n_dims n_candidates g.old.word).next) }
+) -> Result<Candidate, Refusal>
+    ensures { (result ≡ optimize_acquisition_of m n_dims n_candidates g.old.word) × (g.new.word ≡ word_after result g.old.word) }
 {
-    let a = search::optimize_acquisition(m, n_dims, n_candidates, g.word);
-    g.word = a.next;
-    a
+    let found = search::optimize_acquisition(m, n_dims, n_candidates, g.word)?;
+    g.word = found.next;
+    Ok(found)
 }

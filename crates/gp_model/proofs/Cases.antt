@@ -1,4 +1,8 @@
 -- The definitions at small points, computed; the words are what the unchanged Rust gives, with document 01's exp and sqrt. Assumes nothing.
+use Rattle.std.specs.Prelude.{Result, Ok, Err}
+use Rattle.refusal.specs.declared.Refusal.{Refusal}
+use Rattle.refusal.specs.declared.Refusal.TheVariants.{OutOfDomain, NoRows, Pivot}
+use Rattle.arith.specs.Outcome.{made}
 use Prim.Native.Nat.{ℕ}
 use mathlib.Core.Path.{◌≡◌, refl}
 use mathlib.Core.List.{[], ◌∷◌}
@@ -15,7 +19,7 @@ use Rattle.factor.specs.Cholesky.{columns_of, cholesky_of}
 use Rattle.factor.specs.Solve.{backward_of, solve_of}
 use Rattle.factor.specs.Triangle.{rows_of, less_of}
 use Rattle.kernel.specs.Matern.{scaled_root_of, decay_of, matern52_of}
-use Rattle.gp_model.specs.declared.Fit.{Fit}
+use Rattle.gp_model.specs.declared.Model.{Model}
 use Rattle.gp_model.specs.Fit.{fit_domain, fitted_of, fit_of}
 use Rattle.gp_model.specs.Kernels.{covariance_of, similarity_of}
 use Rattle.gp_model.specs.Statistics.{all_within, lengthscale_of, mean_of, standard_of, value_deviation_of, variance_of}
@@ -30,37 +34,35 @@ abbrev pub half : Float
 half = word 0x3fe0000000000000
 
 -- ---- the row 0.5 with the value 3, and the rows 0 and 1 with the values 1 and 3; the noise is 1
-abbrev pub one : Fit
+abbrev pub one : Result Model Refusal
 one = fit_of (half ∷ []) (float 3 ∷ []) 1 (float 1)
 
-abbrev pub two : Fit
+abbrev pub two : Result Model Refusal
 two = fit_of (float 0 ∷ float 1 ∷ []) (float 1 ∷ float 3 ∷ []) 1 (float 1)
 
 abbrev Fitted : Type 0
 Fitted =
-    (one.number ≡ 0)
-    × (to_bits binary64 one.model.f_best ≡ 0)
+    (made (λ m. to_bits binary64 m.f_best) one ≡ Ok 0)
     -- the floor 0.01
-    × (take 1 one.model.lengthscales ≡ (word 0x3f847ae147ae147b ∷ []))
-    × (take 1 one.model.alpha ≡ (float 0 ∷ []))
-    × (take 1 one.model.cholesky ≡ (word 0x3ff6a09e667f3bcd ∷ []))
-    × (two.number ≡ 0)
-    × (to_bits binary64 two.model.f_best ≡ 0xbfe6a09e667f3bcc)
-    × (take 1 two.model.lengthscales ≡ (half ∷ []))
-    × (take 2 two.model.alpha ≡ (word 0xbfd85003df3697fe ∷ word 0x3fd85003df369800 ∷ []))
-    × (take 3 two.model.cholesky ≡ (word 0x3ff6a09e667f3bcd ∷ word 0x3fb917edfffebf91 ∷ word 0x3ff692b0170012fa ∷ []))
+    × (made (λ m. take 1 m.lengthscales) one ≡ Ok (word 0x3f847ae147ae147b ∷ []))
+    × (made (λ m. take 1 m.alpha) one ≡ Ok (float 0 ∷ []))
+    × (made (λ m. take 1 m.cholesky) one ≡ Ok (word 0x3ff6a09e667f3bcd ∷ []))
+    × (made (λ m. to_bits binary64 m.f_best) two ≡ Ok 0xbfe6a09e667f3bcc)
+    × (made (λ m. take 1 m.lengthscales) two ≡ Ok (half ∷ []))
+    × (made (λ m. take 2 m.alpha) two ≡ Ok (word 0xbfd85003df3697fe ∷ word 0x3fd85003df369800 ∷ []))
+    × (made (λ m. take 3 m.cholesky) two ≡ Ok (word 0x3ff6a09e667f3bcd ∷ word 0x3fb917edfffebf91 ∷ word 0x3ff692b0170012fa ∷ []))
 
 fitted : Fitted
 unfolding fit_of fit_domain fitted_of all_within every covariance_of similarity_of lengthscale_of variance_of mean_of value_deviation_of standard_of least_of_first cholesky_of columns_of rows_of less_of grown solve_of backward_of matern52_of scaled_root_of decay_of sum_over exp_of horner_of reduced_of scaled_of whole_of nearest_of round_of sqrt_of root_of isqrt of_bits to_bits round add sub mul div neg lt le is_nan of_int
-fitted = (refl, refl, refl, refl, refl, refl, refl, refl, refl, refl)
+fitted = (refl, refl, refl, refl, refl, refl, refl, refl)
 
 abbrev Refused : Type 0
 Refused =
-    ((fit_of [] [] 1 (float 1)).number ≡ 12)
+    (fit_of [] [] 1 (float 1) ≡ Err NoRows)
     -- 11 before 12
-    × ((fit_of [] [] 21 (float 1)).number ≡ 11)
+    × (fit_of [] [] 21 (float 1) ≡ Err OutOfDomain)
     -- a row twice, without noise
-    × ((fit_of (float 1 ∷ float 1 ∷ []) (float 1 ∷ float 3 ∷ []) 1 (float 0)).number ≡ 13)
+    × (fit_of (float 1 ∷ float 1 ∷ []) (float 1 ∷ float 3 ∷ []) 1 (float 0) ≡ Err Pivot)
 
 refused : Refused
 unfolding fit_of fit_domain fitted_of all_within every covariance_of similarity_of lengthscale_of variance_of mean_of cholesky_of columns_of rows_of less_of grown matern52_of scaled_root_of decay_of sum_over exp_of horner_of reduced_of scaled_of whole_of nearest_of round_of sqrt_of root_of isqrt of_bits round add sub mul div neg lt le is_nan of_int

@@ -2,32 +2,14 @@
 ghost use Rattle.std.specs.Prelude.{◌≡◌, length, ◌≤◌, ◌<◌};
 ghost use Rattle.arith.specs.Lists.{padded};
 ghost use Rattle.factor.specs.Cholesky.{cholesky_of};
-ghost use Rattle.gp_model.specs.Fit.{fit_domain, refused_of, model_of, fitted_of, fit_of};
+ghost use Rattle.gp_model.specs.Fit.{fit_domain, model_of, fitted_of, fit_of};
 ghost use Rattle.gp_model.specs.Kernels.{kernel_matrix_of};
 ghost use Rattle.gp_model.specs.Statistics.{lengthscales_of};
 
 use crate::kernels::Covariances;
 use crate::tables::Table;
-use crate::{Fit, Model, statistics};
-use factor::Factor;
-
-// A refusal: its number, with a model of zeros.
-fn refused(number: u64) -> Fit
-    ensures { result ≡ refused_of number }
-{
-    Fit {
-        number,
-        model: Model {
-            x_train: [0.0; 2000],
-            lengthscales: [0.0; 20],
-            cholesky: [0.0; 5050],
-            alpha: [0.0; 100],
-            f_best: 0.0,
-            n: 0,
-            d: 0,
-        },
-    }
-}
+use crate::{Model, statistics};
+use refusal::Refusal;
 
 // Whether a fit takes these rows of d columns and these values.
 #[tactic(auto, unfolding(crate::specs::Fit::fit_domain))]
@@ -53,7 +35,7 @@ fn copied(x: &[f64]) -> [f64; 2000]
 }
 
 // The factor of the kernel matrix.
-fn factored(x: &Table, lengthscales: &[f64], noise_var: f64) -> Factor
+fn factored(x: &Table, lengthscales: &[f64], noise_var: f64) -> Result<[f64; 5050], Refusal>
     requires { length lengthscales.now ≡ x.now.d }
     ensures { result ≡ cholesky_of (kernel_matrix_of x.now.cells.now x.now.n x.now.d lengthscales.now noise_var) x.now.n }
 {
@@ -73,8 +55,7 @@ fn model(x: &Table, y: &[f64], lengthscales: [f64; 20], cholesky: [f64; 5050]) -
     let n = x.n;
     let values = statistics::standardized(y);
     let f_best = arith::least(&values[..n]);
-    let solved = factor::solve(&cholesky, &values, n);
-    let alpha = solved.x;
+    let alpha = factor::solve(&cholesky, &values, n).unwrap();
     let x_train = copied(x.cells);
     Model {
         x_train,
@@ -88,33 +69,25 @@ fn model(x: &Table, y: &[f64], lengthscales: [f64; 20], cholesky: [f64; 5050]) -
 }
 
 // The fit of at least one row.
-fn fitted(x: &Table, y: &[f64], noise_var: f64) -> Fit
+fn fitted(x: &Table, y: &[f64], noise_var: f64) -> Result<Model, Refusal>
     requires { (0 < length y.now) × (length y.now ≡ x.now.n) }
     ensures { result ≡ fitted_of x.now.cells.now y.now x.now.d noise_var }
 {
     let lengthscales = statistics::lengthscales(x);
-    let factor = factored(x, &lengthscales[..x.d], noise_var);
-    let number = factor.number;
-    if number != 0 {
-        return refused(number);
-    }
-    let cholesky = factor.l;
-    Fit {
-        number: 0,
-        model: model(x, y, lengthscales, cholesky),
-    }
+    let cholesky = factored(x, &lengthscales[..x.d], noise_var)?;
+    Ok(model(x, y, lengthscales, cholesky))
 }
 
 // The model of n rows of d columns, row after row, and n values: 11 outside its domain, 12 without rows, 13 where a pivot is not above 0.
 #[tactic(auto, unfolding(crate::specs::Fit::fit_of))]
-pub fn fit_gp(x: &[f64], y: &[f64], d: usize, noise_var: f64) -> Fit
+pub fn fit_gp(x: &[f64], y: &[f64], d: usize, noise_var: f64) -> Result<Model, Refusal>
     ensures { result ≡ fit_of x.now y.now d noise_var }
 {
     if !in_domain(x, y, d) {
-        return refused(11);
+        return Err(Refusal::OutOfDomain);
     }
     if y.is_empty() {
-        return refused(12);
+        return Err(Refusal::NoRows);
     }
     let n = y.len();
     fitted(&Table { cells: x, n, d }, y, noise_var)

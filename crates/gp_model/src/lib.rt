@@ -21,10 +21,3 @@ pub struct Model {
     pub n: usize,
     pub d: usize,
 }
-
-// A fit: number is 0, or the refusal's number with a model of zeros.
-#[derive(Drop)]
-pub struct Fit {
-    pub number: u64,
-    pub model: Model,
-}

@@ -3,13 +3,12 @@ use mathlib.Core.Path.{◌≡◌, sym, ◌∙◌}
 use mathlib.Core.List.{List}
 use Prim.Native.Nat.{ℕ, ◌≤◌, ◌<◌}
 use native.Mathlib.Omega.{arith}
-use borrow.Author.Tests.{le-leb}
 use lib.ListN.{length, get_or}
 use lib.Seq.{ext_get_or}
 use lib.Ieee.{Float, nan}
 use Rattle.arith.specs.Lists.{list_of}
 use Rattle.arith.proofs.Lists.{grown-at, grown-length, list_same, padded-at}
-use Rattle.factor.specs.Solve.{forward_at, forward_of, backward_of, solve_of}
+use Rattle.factor.specs.Solve.{forward_at, forward_of, backward_of, solution_of}
 use Rattle.factor.proofs.Back.{back-length}
 use Rattle.lanes.specs.Rows.{lane_of, lanes_of, rows_of}
 use Rattle.lanes.proofs.Rows.{eight-same, lanes_at}
@@ -28,11 +27,10 @@ module _ (l : List Float) (b : List (List Float)) (n : ℕ) (top : n ≤ 100) wh
   abbrev first : ℕ → List Float
   first p = forward_of l (lane_of b 100 p) n
 
-  pub solved-lanes : lanes_of (λ p. backward_of l (lane_of (rows_of (lanes_of first n)) n p) n n) n ≡ lanes_of (λ p. (solve_of l (lane_of b 100 p) n).x) n
-  unfolding solve_of
+  pub solved-lanes : lanes_of (λ p. backward_of l (lane_of (rows_of (lanes_of first n)) n p) n n) n ≡ lanes_of (λ p. solution_of l (lane_of b 100 p) n) n
   solved-lanes = list_same _ _ n (λ i h. eight-same _ _ (one i h))
     where
-      one : (i : ℕ) → i < n → (p : ℕ) → p < 8 → get_or (backward_of l (lane_of (rows_of (lanes_of first n)) n p) n n) i nan ≡ get_or (solve_of l (lane_of b 100 p) n).x i nan
+      one : (i : ℕ) → i < n → (p : ℕ) → p < 8 → get_or (backward_of l (lane_of (rows_of (lanes_of first n)) n p) n n) i nan ≡ get_or (solution_of l (lane_of b 100 p) n) i nan
       one i h p g =
-          rw (lane-of-lanes first n p g (grown-length (forward_at l (lane_of b 100 p)) n), le-leb n 100 top)
+          rw (lane-of-lanes first n p g (grown-length (forward_at l (lane_of b 100 p)) n))
           (sym (padded-at 100 (backward_of l (first p) n n) i (rw (back-length l (first p) n n) h)))

@@ -1,4 +1,10 @@
 -- The definitions at small points, computed; the words are what the unchanged Rust gives, with document 01's exp and sqrt. Assumes nothing.
+use Rattle.std.specs.Prelude.{Result, Ok, Err}
+use Rattle.refusal.specs.declared.Refusal.{Refusal}
+use Rattle.refusal.specs.declared.Refusal.TheVariants.{OutOfDomain}
+use Rattle.arith.specs.Outcome.{made, and_then}
+use Rattle.gp_model.specs.declared.Model.{Model}
+use Rattle.prediction.specs.declared.Posterior.{Posterior}
 use mathlib.Core.Path.{◌≡◌, refl}
 use mathlib.Core.List.{[], ◌∷◌}
 use lib.Ieee.{binary64, of_bits, to_bits, round, add, sub, mul, div, neg, lt, le, is_nan, of_int}
@@ -18,15 +24,17 @@ use Rattle.gp_model.proofs.Cases.{float, one, two}
 use Rattle.prediction.specs.Predict.{counts_fit, posterior_mean_of, posterior_std_of, predict_of}
 
 -- ---- predictions at 1, by the models of gp_model/proofs/Cases
+abbrev at_one : Result Model Refusal → Result Posterior Refusal
+at_one fit = and_then fit (λ m. predict_of m (float 1 ∷ []))
+
 abbrev Predicted : Type 0
 Predicted =
-    ((predict_of two.model (float 1 ∷ [])).number ≡ 0)
-    × (to_bits binary64 (predict_of two.model (float 1 ∷ [])).mean ≡ 0x3fd4f138edc7df9a)
-    × (to_bits binary64 (predict_of two.model (float 1 ∷ [])).std ≡ 0x3fe6929eda77b03f)
-    × ((predict_of one.model (float 1 ∷ [])).std ≡ float 1)
+    (made (λ p. to_bits binary64 p.mean) (at_one two) ≡ Ok 0x3fd4f138edc7df9a)
+    × (made (λ p. to_bits binary64 p.std) (at_one two) ≡ Ok 0x3fe6929eda77b03f)
+    × (made (λ p. p.std) (at_one one) ≡ Ok (float 1))
     -- a point of two columns
-    × ((predict_of two.model (float 1 ∷ float 1 ∷ [])).number ≡ 11)
+    × (and_then two (λ m. predict_of m (float 1 ∷ float 1 ∷ [])) ≡ Err OutOfDomain)
 
 predicted : Predicted
 unfolding predict_of counts_fit posterior_mean_of posterior_std_of fit_of fit_domain fitted_of all_within every covariance_of similarity_of lengthscale_of variance_of mean_of value_deviation_of standard_of cholesky_of columns_of rows_of less_of grown solve_of backward_of matern52_of scaled_root_of decay_of sum_over exp_of horner_of reduced_of scaled_of whole_of nearest_of round_of sqrt_of root_of isqrt of_bits to_bits round add sub mul div neg lt le is_nan of_int
-predicted = (refl, refl, refl, refl, refl)
+predicted = (refl, refl, refl, refl)

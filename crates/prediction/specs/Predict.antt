@@ -1,15 +1,16 @@
 -- The prediction, Rasmussen and Williams, algorithm 2.1, lines 4 to 6 (2.25 and 2.26), in the Rust's order of operations. Definitions only.
-use Rattle.std.specs.Prelude.{ℕ, Bool, cond, ◌&&◌, List, eqb, leb, pos, length, take, Float}
+use Rattle.std.specs.Prelude.{ℕ, Bool, cond, ◌&&◌, List, eqb, leb, pos, length, take, Float, Result, Ok, Err}
 use Rattle.std.specs.Float.{binary64}
 use Rattle.std.specs.Float.Ieee.{sub, of_bits, of_int}
+use Rattle.refusal.specs.declared.Refusal.{Refusal}
+use Rattle.refusal.specs.declared.Refusal.TheVariants.{OutOfDomain}
 use Rattle.arith.specs.Choice.{positive_part}
 use Rattle.arith.specs.Lists.{list_of, padded}
 use Rattle.root.specs.Sqrt.{sqrt_of}
 use Rattle.arith.specs.Sums.{products}
-use Rattle.factor.specs.Solve.{solve_of}
+use Rattle.factor.specs.Solve.{solution_of}
 use Rattle.gp_model.specs.declared.Model.{Model}
 use Rattle.prediction.specs.declared.Posterior.{Posterior}
-use Rattle.prediction.specs.declared.Prediction.{Prediction}
 use Rattle.gp_model.specs.Kernels.{row_of, similarity_of}
 use Rattle.gp_model.specs.Statistics.{all_within}
 
@@ -22,7 +23,7 @@ unfoldable pub posterior_mean_of : List Float → ℕ → List Float → Float
 posterior_mean_of alpha n k = products k (take n alpha)
 
 unfoldable pub posterior_std_of : List Float → ℕ → List Float → Float
-posterior_std_of cholesky n k = sqrt_of (positive_part (sub binary64 (of_int binary64 (pos 1)) (products k (take n (solve_of cholesky (padded 100 k) n).x))))
+posterior_std_of cholesky n k = sqrt_of (positive_part (sub binary64 (of_int binary64 (pos 1)) (products k (take n (solution_of cholesky (padded 100 k) n)))))
 
 abbrev pub from_of : List Float → List Float → ℕ → List Float → Posterior
 from_of cholesky alpha n k = record { mean = posterior_mean_of alpha n k; std = posterior_std_of cholesky n k }
@@ -39,9 +40,6 @@ unfoldable pub counts_fit : ℕ → ℕ → Bool
 counts_fit n d = leb 1 n && leb n 100 && leb 1 d && leb d 20
 
 -- "its column count and |x| ≤ 1e32, else 11"
-unfoldable pub predict_of : Model → List Float → Prediction
+unfoldable pub predict_of : Model → List Float → Result Posterior Refusal
 unfolding counts_fit all_within
-predict_of m p =
-    cond (counts_fit m.n m.d && eqb (length p) m.d && all_within (of_bits binary64 0x4693b8b5b5056e17) p)
-    (record { number = 0; mean = (posterior_at m p).mean; std = (posterior_at m p).std })
-    (record { number = 11; mean = of_bits binary64 0; std = of_bits binary64 0 })
+predict_of m p = cond (counts_fit m.n m.d && eqb (length p) m.d && all_within (of_bits binary64 0x4693b8b5b5056e17) p) (Ok (posterior_at m p)) (Err OutOfDomain)

@@ -11,11 +11,3 @@ pub struct Posterior {
     pub mean: f64,
     pub std: f64,
 }
-
-// A prediction: number is 0, or 11 with zeros.
-#[derive(Clone, Copy)]
-pub struct Prediction {
-    pub number: u64,
-    pub mean: f64,
-    pub std: f64,
-}

@@ -4,8 +4,9 @@ ghost use Rattle.arith.specs.Lists.{padded};
 ghost use Rattle.arith.specs.Sums.{products};
 ghost use Rattle.prediction.specs.Predict.{kernel_vector_of, posterior_at, counts_fit, predict_of};
 
-use crate::{Posterior, Prediction};
+use crate::Posterior;
 use gp_model::Model;
+use refusal::Refusal;
 
 // The kernel of a point and each of the n rows of a table of d columns.
 #[tactic(auto, unfolding(arith::specs::Lists::grown))]
@@ -27,10 +28,7 @@ fn dot(a: &[f64], b: &[f64], n: usize) -> f64
     requires { (n ≤ length a.now) × (n ≤ length b.now) }
     ensures { result ≡ products (take n a.now) (take n b.now) }
 {
-    match arith::dot(&a[..n], &b[..n]) {
-        Ok(v) => v,
-        Err(_) => 0.0,
-    }
+    arith::dot(&a[..n], &b[..n]).unwrap()
 }
 
 // The posterior of a model at a point.
@@ -42,7 +40,7 @@ fn posterior(m: &Model, p: &[f64]) -> Posterior
     let d = m.d;
     let k = kernel_vector(&m.x_train, n, d, &m.lengthscales[..d], p);
     let mean = dot(&k, &m.alpha, n);
-    let v = factor::solve(&m.cholesky, &k, n).x;
+    let v = factor::solve(&m.cholesky, &k, n).unwrap();
     let explained = dot(&k, &v, n);
     let var = 1.0 - explained;
     let held = arith::positive_part(var);
@@ -60,20 +58,11 @@ pub fn counts_fit(n: usize, d: usize) -> bool
 
 // The mean and the deviation of a model at a point: 11 outside its domain.
 #[tactic(auto, unfolding(crate::specs::Predict::predict_of))]
-pub fn predict(m: Model, p: &[f64]) -> Prediction
+pub fn predict(m: Model, p: &[f64]) -> Result<Posterior, Refusal>
     ensures { result ≡ predict_of m p.now }
 {
     if !(counts_fit(m.n, m.d) && p.len() == m.d && gp_model::all_within(p, 1e32)) {
-        return Prediction {
-            number: 11,
-            mean: 0.0,
-            std: 0.0,
-        };
+        return Err(Refusal::OutOfDomain);
     }
-    let Posterior { mean, std } = posterior(&m, p);
-    Prediction {
-        number: 0,
-        mean,
-        std,
-    }
+    Ok(posterior(&m, p))
 }

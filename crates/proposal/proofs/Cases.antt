@@ -29,8 +29,7 @@ use Rattle.common.specs.Grid.{int_grid}
 use Rattle.common.specs.Random.{sample_random_of, random_of, int_random, linear_int_random, categorical_random, from_whole}
 use Rattle.gp_model.specs.Fit.{fit_domain, fitted_of, fit_of}
 use Rattle.gp_model.specs.Kernels.{covariance_of, similarity_of}
-use Rattle.prediction.specs.Predict.{counts_fit}
-use Rattle.search.specs.Search.{advance_of, optimize_acquisition_of, search_domain}
+use Rattle.search.specs.Search.{advance_of, optimum_of}
 use Rattle.scaling.specs.Scaling.{from_normalized_of, to_normalized_of}
 use Rattle.gp_model.specs.Statistics.{all_within, lengthscale_of, mean_of, variance_of}
 use Rattle.dimensions.specs.declared.DimensionInfo.{DimensionInfo}
@@ -81,5 +80,5 @@ abbrev Modelled : Type 0
 Modelled = said (compute_candidate_of (settings 1) dims 2 1 (7 ∷ 1 ∷ 0 ∷ 9 ∷ 2 ∷ 0 ∷ 9 ∷ 0 ∷ 0 ∷ 0 ∷ 5 ∷ [])) ≡ (0, 1, ParamValue.Categorical 1, ParamValue.Int (pos 5))
 
 modelled : Modelled
-unfolding compute_candidate_of candidate_number candidate_of point_for step_of walk_of settings_ok view_of training_of recent_training slot_with entry_of column_of kept_of trains_of covers_of x_of y_of asked_of mapped_of entries_of insert_by_id first_entry consumed_of matches_of dimension_ok dimensions_ok columns_of whole_rows row_count recent_count recent_of row_ok slot_read slot_ok agreeing slots_ok ids_once rows_agreeing recent_tests check_of equal_of int_equal taken_of value_of int_taken read_of checked_of int_read encoded_of to_internal_of to_normalized_of optimize_acquisition_of search_domain counts_fit advance_of fit_of fit_domain fitted_of all_within covariance_of similarity_of lengthscale_of variance_of mean_of cholesky_of factor_columns rows_of less_of matern52_of scaled_root_of decay_of sum_over exp_of horner_of reduced_of scaled_of whole_of sqrt_of root_of isqrt from_normalized_of bounds_of ends_of from_internal_of decoded_of int_grid sample_random_of random_of int_random linear_int_random categorical_random from_whole shape_of int_shape int_step categorical_shape whole_draw_of whole_at range_ok unit_of next_of moved_of nearest_of round_of every grown place_of places_of of_bits to_bits of_int to_signed round add sub mul div neg le lt eq is_nan
+unfolding compute_candidate_of candidate_number candidate_of point_for step_of walk_of settings_ok view_of training_of recent_training slot_with entry_of column_of kept_of trains_of covers_of x_of y_of asked_of mapped_of entries_of insert_by_id first_entry consumed_of matches_of dimension_ok dimensions_ok columns_of whole_rows row_count recent_count recent_of row_ok slot_read slot_ok agreeing slots_ok ids_once rows_agreeing recent_tests check_of equal_of int_equal taken_of value_of int_taken read_of checked_of int_read encoded_of to_internal_of to_normalized_of optimum_of advance_of fit_of fit_domain fitted_of all_within covariance_of similarity_of lengthscale_of variance_of mean_of cholesky_of factor_columns rows_of less_of matern52_of scaled_root_of decay_of sum_over exp_of horner_of reduced_of scaled_of whole_of sqrt_of root_of isqrt from_normalized_of bounds_of ends_of from_internal_of decoded_of int_grid sample_random_of random_of int_random linear_int_random categorical_random from_whole shape_of int_shape int_step categorical_shape whole_draw_of whole_at range_ok unit_of next_of moved_of nearest_of round_of every grown place_of places_of of_bits to_bits of_int to_signed round add sub mul div neg le lt eq is_nan
 modelled = refl

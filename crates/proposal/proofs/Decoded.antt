@@ -5,8 +5,8 @@ use mathlib.Core.Bool.{Bool, true, ◌&&◌, cond}
 use mathlib.Core.List.{List, [], ◌∷◌, ◌++◌}
 use mathlib.Core.Logic.{inl, inr}
 use native.Mathlib.Nat.{not-suc-le-zero, le_of_suc-le-suc, eq-or-lt_of_le}
-use lib.Dec.{T, eqb, leb, eqb→eq}
-use lib.ListN.{length, get_or, take, replicate, length-replicate, get_or-append}
+use lib.Dec.{T, leb}
+use lib.ListN.{length, get_or, replicate, length-replicate, get_or-append}
 use lib.Seq.{get_or-append_seam}
 use lib.Ieee.{Float, nan, binary64, le, lt, of_bits}
 use lib.Ieee.Bits.{is_true}
@@ -17,11 +17,12 @@ use Rattle.rng_util.specs.Draws.{unit_of}
 use Rattle.rng_util.specs.Generator.{stream_of}
 use Rattle.common.specs.declared.RandomDraw.{RandomDraw}
 use Rattle.common.specs.Random.{sample_random_of}
-use Rattle.gp_model.specs.declared.Fit.{Fit}
+use Rattle.std.specs.Prelude.{Result, Ok}
+use Rattle.refusal.specs.declared.Refusal.{Refusal}
 use Rattle.gp_model.specs.declared.Model.{Model}
 use Rattle.search.specs.Earliest.{drawn_of}
-use Rattle.search.specs.Search.{score_of, optimize_acquisition_of}
-use Rattle.search.proofs.Earliest.{search-earliest}
+use Rattle.search.specs.Search.{score_of, optimum_of}
+use Rattle.search.proofs.Earliest.{earliest}
 use Rattle.dimensions.specs.declared.DimensionInfo.{DimensionInfo}
 use Rattle.history_view.specs.declared.View.{View}
 use Rattle.dimensions.specs.Dimensions.{dimension_at, columns_of}
@@ -30,11 +31,12 @@ use Rattle.settings.specs.declared.Settings.{Settings}
 use Rattle.proposal.specs.declared.Point.{Point}
 use Rattle.proposal.specs.declared.Proposal.{Proposal}
 use Rattle.dimensions.specs.declared.Stored.{Stored}
-use Rattle.proposal.specs.Points.{fit_for, search_point, unit_point, point_for}
+use Rattle.proposal.specs.Points.{fit_for, search_point, point_for}
 use Rattle.proposal.specs.Proposal.{from_point, at_random, candidate_of, compute_candidate_of}
 use Rattle.dimensions.specs.Empty.{empty_stored}
 use Rattle.proposal.specs.Values.{decode_of, step_of, walk_of}
-use Rattle.proposal.proofs.Moving.{fitted, searchable}
+use Rattle.proposal.proofs.Draws.{point-is}
+use Rattle.proposal.proofs.Moving.{model-columns}
 use Rattle.proposal.proofs.Numbers.{accepted-is}
 use Rattle.proposal.proofs.Ranges.{column-below}
 use Rattle.proposal.proofs.Walk.{walk-length}
@@ -93,36 +95,34 @@ module _ (s : Settings) (dims : List DimensionInfo) (k w : ℕ) (h : List ℕ) w
   abbrev view : View
   view = seen_of s.slots s.n_startup_trials dims k h
 
-  abbrev fit : Fit
+  abbrev fit : Result Model Refusal
   fit = fit_for view.training s.noise_variance
 
   abbrev values : List Stored
   values = (compute_candidate_of s dims k w h).values
 
   -- the point is the search's
-  searched : (compute_candidate_of s dims k w h).number ≡ 0 → T (view.reached && leb 1 view.training.d) → T (eqb fit.number 0)
-      → Decodes dims k values (optimize_acquisition_of fit.model view.training.d s.n_candidates w).point
-  unfolding candidate_of point_for
-  searched e made t =
-      let p = search_point fit view.training.d s.n_candidates w in
+  searched : (compute_candidate_of s dims k w h).number ≡ 0 → T (view.reached && leb 1 view.training.d) → (m : Model) → fit ≡ Ok m
+      → Decodes dims k values (optimum_of m s.n_candidates w).x
+  unfolding candidate_of
+  searched e made m f =
+      let p = search_point m view.training.d s.n_candidates w in
       let q : values ≡ (from_point dims k p).values =
       ap (λ (c : Proposal). c.values) (accepted-is s dims k w h (passes s dims k w h e))
       ∙ ap (λ (b : Bool). (cond b (from_point dims k (point_for view.training s.noise_variance s.n_candidates w)) (at_random dims k w)).values) (is_true (view.reached && leb 1 view.training.d) made)
-      ∙ ap (λ (b : Bool). (from_point dims k (cond b p (unit_point view.training.d w))).values) (is_true (eqb fit.number 0) t) in
+      ∙ ap (λ (p : Point). (from_point dims k p).values) (point-is view.training s.noise_variance s.n_candidates w (Ok m) f) in
       subst (λ (v : List Stored). Decodes dims k v p.x) (sym q) (from-point dims k p)
 
-  pub stores-earliest : (compute_candidate_of s dims k w h).number ≡ 0 → T (view.reached && leb 1 view.training.d) → T (eqb fit.number 0)
-      → StoresEarliest dims k s.n_candidates w fit.model values (length (columns_of dims k))
-  stores-earliest e made t =
-      let y = view.training in
+  pub stores-earliest : (compute_candidate_of s dims k w h).number ≡ 0 → T (view.reached && leb 1 view.training.d) → (m : Model) → fit ≡ Ok m
+      → StoresEarliest dims k s.n_candidates w m values (length (columns_of dims k))
+  stores-earliest e made m f =
       let r = ranged s dims k w h (passes s dims k w h e) in
-      let g = fitted (take (y.n * y.d) y.x) (take y.n y.y) y.d s.noise_variance (eqb→eq fit.number 0 t) in
-      let a = search-earliest fit.model y.d s.n_candidates w (searchable (take (y.n * y.d) y.x) (take y.n y.y) y.d w fit g r.0) in
-      let x = (optimize_acquisition_of fit.model y.d s.n_candidates w).point in
-      let f = searched e made t in
-      let d = fit.model.d in
-      let q = g.columns ∙ view-columns s dims k w h r.1 in
-      subst (StoresEarliest dims k s.n_candidates w fit.model values) q (record {
-        none = λ z. from-array dims k values x (replicate d (of_bits binary64 0x3fe0000000000000)) f (a.none z) (length-replicate d (of_bits binary64 0x3fe0000000000000) ∙ q);
-        found = λ z. let b = a.found z in (b.0, b.1, from-array dims k values x (drawn_of d (stream_of (s.n_candidates * d) w) b.0) f b.2 (grown-length (λ xs j. unit_of (get_or (stream_of (s.n_candidates * d) w) (b.0 * d + j) 0)) d ∙ q), b.3, b.4);
+      let a = earliest m s.n_candidates w in
+      let x = (optimum_of m s.n_candidates w).x in
+      let v = searched e made m f in
+      let d = m.d in
+      let q = model-columns view.training s.noise_variance m f ∙ view-columns s dims k w h r.1 in
+      subst (StoresEarliest dims k s.n_candidates w m values) q (record {
+        none = λ z. from-array dims k values x (replicate d (of_bits binary64 0x3fe0000000000000)) v (a.none z) (length-replicate d (of_bits binary64 0x3fe0000000000000) ∙ q);
+        found = λ z. let b = a.found z in (b.0, b.1, from-array dims k values x (drawn_of d (stream_of (s.n_candidates * d) w) b.0) v b.2 (grown-length (λ xs j. unit_of (get_or (stream_of (s.n_candidates * d) w) (b.0 * d + j) 0)) d ∙ q), b.3, b.4);
       })

@@ -14,6 +14,9 @@ use lib.Ieee.{Float}
 use borrow.Author.Tests.{eq-eqb, ne_eqb}
 use Rattle.arith.proofs.Tests.{taken}
 use Rattle.distribution.proofs.Facts.{parts}
+use Rattle.std.specs.Prelude.{Result, Ok, Err}
+use Rattle.refusal.specs.declared.Refusal.{Refusal}
+use Rattle.gp_model.specs.declared.Model.{Model}
 use Rattle.dimensions.specs.declared.DimensionInfo.{DimensionInfo}
 use Rattle.history.specs.declared.Training.{Training}
 use Rattle.refusal.specs.Numbers.{number_of}
@@ -24,16 +27,16 @@ use Rattle.history_view.proofs.Views.{none-refused, view-number, seen-training}
 use Rattle.param_mapping.proofs.Opened.{opened}
 use Rattle.settings.specs.declared.Settings.{Settings}
 use Rattle.settings.specs.Settings.{settings_ok}
-use Rattle.proposal.specs.Points.{fit_for, search_point, unit_point, point_for}
+use Rattle.proposal.specs.Points.{fit_for, point_by, point_for}
 use Rattle.proposal.specs.Proposal.{candidate_of, candidate_number, refused_of, compute_candidate_of}
 
 pub point_few : (t : Training) (noise : Float) (candidates w : ℕ) → candidates ≤ 10000 → t.d ≤ 20 → (point_for t noise candidates w).drawn ≤ 200000
 unfolding point_for
-point_few t noise candidates w h k = go (eqb (fit_for t noise).number 0)
+point_few t noise candidates w h k = go (fit_for t noise)
   where
-    go : (b : Bool) → (cond b (search_point (fit_for t noise) t.d candidates w) (unit_point t.d w)).drawn ≤ 200000
-    go true = mul-le-mul h k
-    go false = omega arith
+    go : (f : Result Model Refusal) → (point_by f t.d candidates w).drawn ≤ 200000
+    go (Ok m) = mul-le-mul h k
+    go (Err r) = omega arith
 
 module _ (s : Settings) (dims : List DimensionInfo) (k w : ℕ) (h : List ℕ) where
   pub refused-is : (n : ℕ) → candidate_number s dims k w h ≡ n → (n ≡ 0 → ⊥) → compute_candidate_of s dims k w h ≡ refused_of n w

@@ -7,12 +7,11 @@ use mathlib.Core.Logic.{◌⊎◌, inl, inr}
 use native.Mathlib.Nat.{eq-or-lt_of_le, eq-zero-or-pos, le_of_suc-le-suc, not-suc-le-zero}
 use native.Mathlib.Omega.{arith}
 use lib.Dec.{T, eqb, leb}
-use lib.ListN.{length, get_or, take, replicate, length-replicate, get_or-replicate, get_or-append}
+use lib.ListN.{length, get_or, replicate, length-replicate, get_or-replicate, get_or-append}
 use lib.Seq.{get_or-append_seam}
 use lib.Ieee.{Float, nan, binary64, fits, le, of_bits, of_int}
 use lib.Ieee.Bits.{is_true}
 use lib.Ieee.Fits.{and_l, and_r}
-use borrow.Author.Tests.{eq-eqb, eqb-true}
 use Rattle.arith.specs.Bounds.{Between}
 use Rattle.arith.specs.Lists.{list_of, filled, padded}
 use Rattle.arith.proofs.Lists.{grown-at, grown-padded-at, filled_at, padded-at}
@@ -32,15 +31,19 @@ use Rattle.common.specs.declared.RandomDraw.{RandomDraw}
 use Rattle.common.specs.Decode.{one}
 use Rattle.common.specs.Random.{sample_random_of}
 use Rattle.common.proofs.Facts.{Inside, Ranged, decode-accepted, random-accepted}
-use Rattle.factor.specs.declared.Factor.{Factor}
-use Rattle.factor.specs.Cholesky.{factor_of, positive, refused_of as refused_factor, cholesky_of}
+use Rattle.std.specs.Prelude.{Result, Ok, Err}
+use Rattle.refusal.specs.declared.Refusal.{Refusal}
+use Rattle.refusal.specs.declared.Refusal.TheVariants.{OutOfDomain, NoRows, Pivot}
+use Rattle.refusal.specs.Numbers.{number_of}
+use Rattle.factor.specs.Cholesky.{factor_of, positive, cholesky_of}
 use Rattle.factor.specs.Triangle.{entry, rows_of}
-use Rattle.gp_model.specs.Fit.{fit_domain, refused_of as refused_fit, factored_of, fitted_of, fit_of}
+use Rattle.gp_model.specs.declared.Model.{Model}
+use Rattle.gp_model.specs.Fit.{fit_domain, factored_of, fitted_of, fit_of}
 use Rattle.gp_model.specs.Kernels.{kernel_matrix_of}
 use Rattle.scaling.specs.Scaling.{from_normalized_of}
-use Rattle.search.specs.Search.{point_of, optimize_acquisition_of}
+use Rattle.search.specs.Search.{point_of, optimum_of}
 use Rattle.gp_model.specs.Statistics.{lengthscales_of}
-use Rattle.search.proofs.Earliest.{search-earliest}
+use Rattle.search.proofs.Earliest.{earliest}
 use Rattle.dimensions.specs.declared.DimensionInfo.{DimensionInfo}
 use Rattle.history.specs.declared.Training.{Training}
 use Rattle.history_view.specs.declared.View.{View}
@@ -49,11 +52,11 @@ use Rattle.history_view.proofs.Values.{Column, floats-fit, bounds-shape, shape, 
 use Rattle.settings.specs.declared.Settings.{Settings}
 use Rattle.proposal.specs.declared.Point.{Point}
 use Rattle.dimensions.specs.declared.Stored.{Stored}
-use Rattle.proposal.specs.Points.{fit_for, search_point, unit_point, point_for}
+use Rattle.proposal.specs.Points.{fit_for, point_by, point_for}
 use Rattle.proposal.specs.Proposal.{from_point, at_random, candidate_of}
 use Rattle.dimensions.specs.Empty.{empty_stored}
 use Rattle.proposal.specs.Values.{decode_of, step_of, walk_of}
-use Rattle.proposal.proofs.Moving.{fitted, searchable, walk-moves, point-moves}
+use Rattle.proposal.proofs.Moving.{model-columns, walk-moves, point-moves}
 use Rattle.proposal.proofs.Walk.{walk-length, columns-next}
 
 -- ---- the numbers of a fit
@@ -61,24 +64,22 @@ use Rattle.proposal.proofs.Walk.{walk-length, columns-next}
 abbrev pub fit_number : ℕ → Bool
 fit_number n = eqb n 0 || eqb n 12 || eqb n 13
 
-cholesky-number : (a : List Float) (n : ℕ) → T (leb n 100) → ((cholesky_of a n).number ≡ 0) ⊎ ((cholesky_of a n).number ≡ 13)
+cholesky-number : (a : List Float) (n : ℕ) → T (leb n 100) → (number_of (cholesky_of a n) ≡ 0) ⊎ (number_of (cholesky_of a n) ≡ 13)
 unfolding cholesky_of
 cholesky-number a n h = go (leb n 100) (positive (entry a) n) h
   where
-    made : Factor
-    made = record { number = 0; l = padded 5050 (rows_of (factor_of (entry a)) n) }
-
-    go : (b c : Bool) → T b → let f : Factor = cond b (cond c made (refused_factor 13)) (refused_factor 11) in (f.number ≡ 0) ⊎ (f.number ≡ 13)
+    go : (b c : Bool) → T b → let f : Result (List Float) Refusal = cond b (cond c (Ok (padded 5050 (rows_of (factor_of (entry a)) n))) (Err Pivot)) (Err OutOfDomain) in (number_of f ≡ 0) ⊎ (number_of f ≡ 13)
     go true true t = inl refl
     go true false t = inr refl
     go false c t = absurd t
 
-factored-number : (x y : List Float) (d : ℕ) (c : Factor) → (c.number ≡ 0) ⊎ (c.number ≡ 13) → T (fit_number (factored_of x y d c).number)
-factored-number x y d c (inl e) = rw (eq-eqb c.number 0 e) tt
-factored-number x y d c (inr e) = rw e tt
+factored-number : (x y : List Float) (d : ℕ) (f : Result (List Float) Refusal) → (number_of f ≡ 0) ⊎ (number_of f ≡ 13) → T (fit_number (number_of (factored_of x y d f)))
+factored-number x y d (Ok l) h = tt
+factored-number x y d (Err r) (inl e) = rw e tt
+factored-number x y d (Err r) (inr e) = rw e tt
 
 -- 12 without rows, 13 where the factor has none; in the domain there is no 11
-pub fit-number : (x y : List Float) (d : ℕ) (noise : Float) → fit_domain x y d ≡ true → T (fit_number (fit_of x y d noise).number)
+pub fit-number : (x y : List Float) (d : ℕ) (noise : Float) → fit_domain x y d ≡ true → T (fit_number (number_of (fit_of x y d noise)))
 unfolding fit_of fitted_of
 fit-number x y d noise e = go (fit_domain x y d) (eqb (length y) 0) (taken e) (few (taken e))
   where
@@ -88,7 +89,7 @@ fit-number x y d noise e = go (fit_domain x y d) (eqb (length y) 0) (taken e) (f
     k : List Float
     k = kernel_matrix_of x (length y) d (lengthscales_of x (length y) d) noise
 
-    go : (a b : Bool) → T a → T (leb (length y) 100) → T (fit_number (cond a (cond b (refused_fit 12) (factored_of x y d (cholesky_of k (length y)))) (refused_fit 11)).number)
+    go : (a b : Bool) → T a → T (leb (length y) 100) → T (fit_number (number_of (cond a (cond b (Err NoRows) (factored_of x y d (cholesky_of k (length y)))) (Err OutOfDomain))))
     go true true p l = tt
     go true false p l = factored-number x y d (cholesky_of k (length y)) (cholesky-number k (length y) l)
     go false b p l = absurd p
@@ -118,25 +119,22 @@ drawn-coordinate f d i x e h l =
 
 pub point-coordinate : (t : Training) (noise : Float) (candidates w i : ℕ) → Nonzero w → i < t.d → Coordinate (get_or (point_for t noise candidates w).x i nan)
 unfolding point_for
-point-coordinate t noise candidates w i h l = go (eqb (fit_for t noise).number 0) refl
+point-coordinate t noise candidates w i h l = go (fit_for t noise) refl
   where
-    searched : eqb (fit_for t noise).number 0 ≡ true → Coordinate (get_or (optimize_acquisition_of (fit_for t noise).model t.d candidates w).point i nan)
-    searched e =
-        let g = fitted (take (t.n * t.d) t.x) (take t.n t.y) t.d noise (eqb-true (fit_for t noise).number 0 e) in
-        let r = search-earliest (fit_for t noise).model t.d candidates w (searchable (take (t.n * t.d) t.x) (take t.n t.y) t.d w (fit_for t noise) g (λ z. omega arith)) in
-        let x = (optimize_acquisition_of (fit_for t noise).model t.d candidates w).point in
-        let m = (fit_for t noise).model.d in
-        let k : i < m = subst (λ (n : ℕ). i < n) (sym g.columns) l in
+    searched : (m : Model) → fit_for t noise ≡ Ok m → Coordinate (get_or (optimum_of m candidates w).x i nan)
+    searched m e =
+        let r = earliest m candidates w in
+        let k : i < m.d = subst (λ (n : ℕ). i < n) (sym (model-columns t noise m e)) l in
         elim (eq-zero-or-pos candidates) [
           | inl z ↦ subst Coordinate (sym (ap (λ (y : List Float). get_or y i nan) (r.none z)
-              ∙ padded-at 20 (replicate m (of_bits binary64 0x3fe0000000000000)) i (rw (length-replicate m (of_bits binary64 0x3fe0000000000000)) k)
-              ∙ get_or-replicate m i (of_bits binary64 0x3fe0000000000000) nan k)) half-coordinate
-          | inr p ↦ let f = r.found p in drawn-coordinate (λ j. get_or (stream_of (candidates * m) w) (f.0 * m + j) 0) m i x f.2 (λ j. stream-small (candidates * m) w (f.0 * m + j) h) k
+              ∙ padded-at 20 (replicate m.d (of_bits binary64 0x3fe0000000000000)) i (rw (length-replicate m.d (of_bits binary64 0x3fe0000000000000)) k)
+              ∙ get_or-replicate m.d i (of_bits binary64 0x3fe0000000000000) nan k)) half-coordinate
+          | inr p ↦ let f = r.found p in drawn-coordinate (λ j. get_or (stream_of (candidates * m.d) w) (f.0 * m.d + j) 0) m.d i (optimum_of m candidates w).x f.2 (λ j. stream-small (candidates * m.d) w (f.0 * m.d + j) h) k
         ]
 
-    go : (b : Bool) → eqb (fit_for t noise).number 0 ≡ b → Coordinate (get_or (cond b (search_point (fit_for t noise) t.d candidates w) (unit_point t.d w)).x i nan)
-    go true e = searched e
-    go false e = drawn-coordinate (λ j. moved_of (suc j) w) t.d i (padded 20 (point_of t.d w)) refl (λ j. (moved-nonzero (suc j) w h).1) l
+    go : (f : Result Model Refusal) → fit_for t noise ≡ f → Coordinate (get_or (point_by f t.d candidates w).x i nan)
+    go (Ok m) e = searched m e
+    go (Err r) e = drawn-coordinate (λ j. moved_of (suc j) w) t.d i (padded 20 (point_of t.d w)) refl (λ j. (moved-nonzero (suc j) w h).1) l
 
 -- ---- a value in range: taken, and an int from low to high, a choice below the count
 
@@ -249,7 +247,7 @@ candidate-ranged s dims k w v h columns formed i l = go (v.reached && leb 1 v.tr
 
     given : T v.reached → InRange (dimension_at dims i).distribution (get_or (filled empty_stored 20 (walk_of true p.x dims k p.next).values) i empty_stored).value
     given r =
-        let z : Nonzero p.next = subst Nonzero (sym (point-moves v.training s.noise_variance s.n_candidates w (λ z. omega arith))) (moved-nonzero p.drawn w h) in
+        let z : Nonzero p.next = subst Nonzero (sym (point-moves v.training s.noise_variance s.n_candidates w)) (moved-nonzero p.drawn w h) in
         filled-ranged true p.x dims p.next z k (record {
           formed = formed;
           coordinate = λ g j m c. point-coordinate v.training s.noise_variance s.n_candidates w (length (columns_of dims j)) h (rw (columns r) (column-below dims k j m c));

@@ -18,6 +18,9 @@ use Rattle.common.specs.declared.RandomDraw.{RandomDraw}
 use Rattle.common.specs.Random.{sample_random_of}
 use Rattle.encoding.proofs.EndLaws.{FloatsFit}
 use Rattle.common.proofs.Facts.{random-accepted}
+use Rattle.std.specs.Prelude.{Result, Ok, Err, is_ok}
+use Rattle.refusal.specs.declared.Refusal.{Refusal}
+use Rattle.gp_model.specs.declared.Model.{Model}
 use Rattle.dimensions.specs.declared.DimensionInfo.{DimensionInfo}
 use Rattle.history.specs.declared.Training.{Training}
 use Rattle.history_view.specs.declared.View.{View}
@@ -34,7 +37,7 @@ use Rattle.history_view.proofs.Views.{none-refused}
 use Rattle.settings.specs.declared.Settings.{Settings}
 use Rattle.settings.specs.Settings.{settings_ok}
 use Rattle.proposal.specs.declared.Proposal.{Proposal}
-use Rattle.proposal.specs.Points.{fit_for, search_point, unit_point, point_for}
+use Rattle.proposal.specs.Points.{fit_for, point_by, point_for}
 use Rattle.proposal.specs.Proposal.{from_point, at_random, candidate_of, candidate_number, refused_of, compute_candidate_of}
 use Rattle.proposal.specs.Values.{decode_of, step_of, walk_of}
 use Rattle.proposal.proofs.Moving.{walk-moves, point-moves}
@@ -85,20 +88,20 @@ module _ (s : Settings) (dims : List DimensionInfo) (k w : ℕ) (n : Nonzero w) 
   columns = length (columns_of dims k)
 
   abbrev words : Training → Bool → ℕ
-  words t made = cond (made && eqb (fit_for t s.noise_variance).number 0) (s.n_candidates * columns + (k - columns)) k
+  words t made = cond (made && is_ok (fit_for t s.noise_variance)) (s.n_candidates * columns + (k - columns)) k
 
   point-words : (t : Training) → t.d ≡ columns → (from_point dims k (point_for t s.noise_variance s.n_candidates w)).drawn ≡ words t true
   point-words t e =
       let p = point_for t s.noise_variance s.n_candidates w in
-      let m : Nonzero p.next = subst Nonzero (sym (point-moves t s.noise_variance s.n_candidates w (λ z. omega arith))) (moved-nonzero p.drawn w n) in
-      sum (eqb (fit_for t s.noise_variance).number 0) p.drawn (walk_of true p.x dims k p.next).drawn (s.n_candidates * columns) drawn (walk-words true p.x dims p.next m k ready)
+      let m : Nonzero p.next = subst Nonzero (sym (point-moves t s.noise_variance s.n_candidates w)) (moved-nonzero p.drawn w n) in
+      sum (is_ok (fit_for t s.noise_variance)) p.drawn (walk_of true p.x dims k p.next).drawn (s.n_candidates * columns) drawn (walk-words true p.x dims p.next m k ready)
     where
-      drawn : (point_for t s.noise_variance s.n_candidates w).drawn ≡ cond (eqb (fit_for t s.noise_variance).number 0) (s.n_candidates * columns) columns
-      drawn = unfold point_for in go (eqb (fit_for t s.noise_variance).number 0)
+      drawn : (point_for t s.noise_variance s.n_candidates w).drawn ≡ cond (is_ok (fit_for t s.noise_variance)) (s.n_candidates * columns) columns
+      drawn = unfold point_for in go (fit_for t s.noise_variance)
         where
-          go : (b : Bool) → (cond b (search_point (fit_for t s.noise_variance) t.d s.n_candidates w) (unit_point t.d w)).drawn ≡ cond b (s.n_candidates * columns) columns
-          go true = ap (λ (d : ℕ). s.n_candidates * d) e
-          go false = e
+          go : (f : Result Model Refusal) → (point_by f t.d s.n_candidates w).drawn ≡ cond (is_ok f) (s.n_candidates * columns) columns
+          go (Ok m) = ap (λ (d : ℕ). s.n_candidates * d) e
+          go (Err r) = e
 
       sum : (b : Bool) (x y m : ℕ) → x ≡ cond b m columns → y + columns ≡ k → x + y ≡ cond b (m + (k - columns)) k
       sum true x y m p q = omega arith
@@ -146,7 +149,7 @@ module _ (s : Settings) (dims : List DimensionInfo) (k w : ℕ) (h : List ℕ) w
 
   pub compute-words : w < 2 ^ 64 → ((i : ℕ) → i < k → Held (dimension_at dims i).distribution) → (compute_candidate_of s dims k w h).number ≡ 0
       → (compute_candidate_of s dims k w h).drawn
-      ≡ cond ((view.reached && leb 1 view.training.d) && eqb (fit_for view.training s.noise_variance).number 0) (s.n_candidates * length (columns_of dims k) + (k - length (columns_of dims k))) k
+      ≡ cond ((view.reached && leb 1 view.training.d) && is_ok (fit_for view.training s.noise_variance)) (s.n_candidates * length (columns_of dims k) + (k - length (columns_of dims k))) k
   compute-words small held e =
       let c = passes e in
       let r = ranged c in

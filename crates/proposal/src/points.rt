@@ -4,18 +4,18 @@ ghost use Rattle.proposal.specs.Points.{unit_point, point_for};
 
 use crate::Point;
 use history::Training;
+use search::Candidate;
 
 // One unit float a column.
 fn unit_point(d: usize, word: u64) -> Point
     requires { (d ≤ 20) × (0 < word) }
     ensures { result ≡ unit_point d word }
 {
-    let u = search::draw_point(d, word);
-    let x = u.point;
+    let Candidate { x, next } = search::draw_point(d, word).unwrap();
     Point {
         x,
         drawn: d as u64,
-        next: u.next,
+        next,
     }
 }
 
@@ -29,16 +29,20 @@ pub(crate) fn point_for(t: Training, noise_variance: f64, n_candidates: u64, wor
     let rows = t.x;
     let values = t.y;
     let fit = gp_model::fit_gp(&rows[0..n * d], &values[0..n], d, noise_variance);
-    let refused = fit.number != 0;
-    if refused {
-        return unit_point(d, word);
-    }
-    let model = fit.model;
-    let s = search::optimize_acquisition(model, d, n_candidates, word);
-    let x = s.point;
-    Point {
-        x,
-        drawn: n_candidates * d as u64,
-        next: s.next,
+    match fit {
+        Ok(model) => {
+            let Candidate { x, next } = search::optimize_acquisition(
+                model,
+                d,
+                n_candidates,
+                word,
+            ).unwrap();
+            Point {
+                x,
+                drawn: n_candidates * d as u64,
+                next,
+            }
+        }
+        Err(_) => unit_point(d, word),
     }
 }

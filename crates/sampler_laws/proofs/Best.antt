@@ -5,11 +5,12 @@ use mathlib.Core.Bool.{true, true≢false}
 use mathlib.Core.List.{List}
 use mathlib.Core.Logic.{inl, inr}
 use native.Mathlib.Omega.{arith}
-use lib.Dec.{eqb, eqb→eq}
+use lib.Dec.{eqb→eq}
 use lib.ListN.{length, get_or}
 use lib.Ieee.{Float}
-use lib.Ieee.Fits.{and_l, and_r}
+use lib.Ieee.Fits.{and_l}
 use lib.Ieee.Bits.{is_true}
+use Rattle.std.specs.Prelude.{is_ok}
 use Rattle.distribution.specs.declared.Distribution.{Distribution}
 use Rattle.distribution.proofs.Facts.{parts}
 use Rattle.proposal.specs.Proposal.{compute_candidate_of}
@@ -64,13 +65,13 @@ stores s after trial h point f e = record { placed = f.placed; decoded = λ j l 
 
 pub best : (s : Sampler) (c : Call) → length s.places ≡ 32 → BestStored s c
 unfolding new_trial has_model point_drawn
-best s (asks d trial h) n = λ t m.
+best s (asks d trial h) n = λ t g m e.
     let after = (call_of s (asks d trial h)).sampler in
     let none : trial_place s.places trial ≡ 32 = eqb→eq (trial_place s.places trial) 32 (search parts) in
     let number : (call_of s (asks d trial h)).number ≡ 0 = eqb→eq (call_of s (asks d trial h)).number 0 (search parts depth 9) in
     let past : past_discovery s trial ≡ true = is_true (past_discovery s trial) (search parts depth 9) in
     let f = filled s n d trial h past none number in
-    let q = stores-earliest s.settings s.dimensions s.n_dims s.word (served_history s h) f.number (and_l (fit_made s h) (eqb (fit_answer s h).number 0) m) (and_r (fit_made s h) (eqb (fit_answer s h).number 0) m) in
+    let q = stores-earliest s.settings s.dimensions s.n_dims s.word (served_history s h) f.number (and_l (fit_made s h) (is_ok (fit_answer s h)) g) m e in
     record {
       none = λ z. stores s after trial h _ f (q.none z);
       found = λ z. let b = q.found z in (b.0, b.1, stores s after trial h _ f b.2, b.3, b.4);

@@ -17,6 +17,8 @@ use Rattle.encoding.specs.Bounds.{bounds_of, ends_of}
 use Rattle.common.specs.Random.{sample_random_of, random_of, int_random, linear_int_random, categorical_random, from_whole}
 use Rattle.dimensions.specs.Empty.{empty_stored}
 use Rattle.dimensions.specs.Dimensions.{dimension_ok, dimensions_ok, columns_of}
+use Rattle.std.specs.Prelude.{Err}
+use Rattle.refusal.specs.declared.Refusal.TheVariants.{NoRows}
 use Rattle.gp_model.specs.Fit.{fit_of, fit_domain}
 use Rattle.gp_model.specs.Statistics.{all_within}
 use Rattle.param_mapping.specs.Mapping.{mapped_of, asked_of}
@@ -181,7 +183,7 @@ eager = activated (int (fresh_of (record { n_startup_trials = 0; n_candidates = 
 abbrev Points : Type 0
 Points =
     (fit_made eager [] ≡ true)
-    × ((fit_answer eager []).number ≡ 12)
+    × (fit_answer eager [] ≡ Err NoRows)
     × (has_model eager [] ≡ false)
     × (point_drawn (with_word eager 1) 0 ≡ unit_of 0x40822041 ∷ [])
     × (point_drawn (with_word eager 1) 1 ≡ unit_of 0x100041060c011441 ∷ [])

@@ -125,7 +125,7 @@ module _ (settings : Settings) (dims : List DimensionInfo) (k word : ℕ) (g : R
   training : training_of settings.slots dims k h ≡ Ok view.training
   training = seen-training settings.slots settings.n_startup_trials dims k h number
 
-  fit : T (leb 1 view.training.d) → T (fit_number (fit_for view.training settings.noise_variance).number)
+  fit : T (leb 1 view.training.d) → T (fit_number (number_of (fit_for view.training settings.noise_variance)))
   fit m =
       let v = view.training in
       fit-number (take (v.n * v.d) v.x) (take v.n v.y) v.d settings.noise_variance
@@ -152,7 +152,7 @@ module _ (s : Sampler) (g : Well s) (h : List ℕ) (r : check_of s.settings.slot
   values_of : InRanges s.dimensions s.n_dims (compute_candidate_of s.settings s.dimensions s.n_dims s.word (served_history s h))
   values_of = values-made s.settings s.dimensions s.n_dims s.word (ready s g) (served_history s h) (served-accepted s h g.ok.settings r)
 
-  fit_of_lem : T (fit_made s h) → T (fit_number (fit_answer s h).number)
+  fit_of_lem : T (fit_made s h) → T (fit_number (number_of (fit_answer s h)))
   fit_of_lem m = fit s.settings s.dimensions s.n_dims s.word (ready s g) (served_history s h) (served-accepted s h g.ok.settings r) (search parts)
 
 pub nothing-refused : NothingRefused

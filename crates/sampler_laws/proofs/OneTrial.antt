@@ -5,10 +5,11 @@ use native.Mathlib.Omega.{arith}
 use mathlib.Core.Path.{◌≡◌, refl, sym, subst}
 use mathlib.Core.Bool.{true, false, ◌&&◌, cond}
 use mathlib.Core.List.{List}
-use lib.Dec.{T, eqb, eqb_refl, leb, le→leb, ltb}
+use lib.Dec.{T, eqb_refl, leb, le→leb, ltb}
 use lib.ListN.{length}
 use lib.Ieee.Fits.{and_i}
 use borrow.Author.Tests.{ltb-true, ltb-false, lt-ltb, le-ltb}
+use Rattle.std.specs.Prelude.{is_ok}
 use Rattle.arith.specs.Lists.{every}
 use Rattle.arith.proofs.Lists.{each-every, every-each}
 use Rattle.arith.proofs.Tests.{taken as passed, by-test}
@@ -53,7 +54,7 @@ abbrev pub new_words : Settings → List DimensionInfo → ℕ → List ℕ → 
 new_words settings dims k h =
     let v = seen_of settings.slots settings.n_startup_trials dims k h in
     let columns = length (columns_of dims k) in
-    cond ((v.reached && leb 1 v.training.d) && eqb (fit_for v.training settings.noise_variance).number 0) (settings.n_candidates * columns + (k - columns)) k
+    cond ((v.reached && leb 1 v.training.d) && is_ok (fit_for v.training settings.noise_variance)) (settings.n_candidates * columns + (k - columns)) k
 
 module _ (settings : Settings) (dims : List DimensionInfo) (k word : ℕ) (p : Place) (d : Distribution) (trial : ℕ) (h : List ℕ) where
   abbrev served : Serving

@@ -2,6 +2,7 @@
 use Rattle.std.specs.Prelude.{ℕ, ◌+◌, ◌*◌, ◌^◌, ◌<◌, ◌≡◌, Bool, true, ◌&&◌, ◌||◌, cond, List, T, eqb, ltb, length, Some, Ok}
 use Rattle.std.specs.Float.{binary64}
 use Rattle.std.specs.Float.Ieee.{fits}
+use Rattle.refusal.specs.Numbers.{number_of}
 use Rattle.rng_util.specs.Generator.{moved_of}
 use Rattle.distribution.specs.declared.Distribution.{Distribution}
 use Rattle.distribution_words.specs.RoundTrip.{Held}
@@ -69,7 +70,7 @@ pub record WellFormed : Type 0 where
 -- inside a call with a history that is not refused
 pub record NothingRefused : Type 0 where
   -- a fit is refused only with 12 or 13
-  pub fit : (s : Sampler) (h : List ℕ) → Typed s → T (sampler_ok s) → check_of s.settings.slots h ≡ Ok tt → T (fit_made s h) → T (eqb (fit_answer s h).number 0 || eqb (fit_answer s h).number 12 || eqb (fit_answer s h).number 13)
+  pub fit : (s : Sampler) (h : List ℕ) → Typed s → T (sampler_ok s) → check_of s.settings.slots h ≡ Ok tt → T (fit_made s h) → T (eqb (number_of (fit_answer s h)) 0 || eqb (number_of (fit_answer s h)) 12 || eqb (number_of (fit_answer s h)) 13)
   -- a new trial's values are made and in range: no decoding and no draw is refused, nor an exp or ln in it
   pub values : (s : Sampler) (h : List ℕ) → Typed s → T (sampler_ok s) → check_of s.settings.slots h ≡ Ok tt
       → let c = compute_candidate_of s.settings s.dimensions s.n_dims s.word (served_history s h) in

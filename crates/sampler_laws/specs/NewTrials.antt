@@ -1,12 +1,12 @@
 -- A new trial, its model, the points drawn for it and what it stores, in document 01's words. Nothing here speaks of how the search goes. Definitions only.
-use Rattle.std.specs.Prelude.{ℕ, ◌+◌, ◌*◌, ◌-◌, ◌<◌, ◌≡◌, Bool, false, not, ◌&&◌, ◌||◌, cond, List, [], T, eqb, leb, length, get_or, replicate, Float}
+use Rattle.std.specs.Prelude.{ℕ, ◌+◌, ◌*◌, ◌-◌, ◌<◌, ◌≡◌, Bool, false, not, ◌&&◌, ◌||◌, cond, List, [], T, eqb, leb, length, get_or, replicate, Float, Result, Ok, is_ok}
 use Rattle.std.specs.Float.{nan, binary64}
 use Rattle.std.specs.Float.Ieee.{lt, le, of_bits}
+use Rattle.refusal.specs.declared.Refusal.{Refusal}
 use Rattle.distribution.specs.Shape.{continuous_of}
 use Rattle.arith.specs.Lists.{list_of}
 use Rattle.rng_util.specs.Draws.{unit_of}
 use Rattle.rng_util.specs.Generator.{stream_of}
-use Rattle.gp_model.specs.declared.Fit.{Fit}
 use Rattle.gp_model.specs.declared.Model.{Model}
 use Rattle.search.specs.Search.{score_of}
 use Rattle.history_view.specs.declared.View.{View}
@@ -44,11 +44,11 @@ view_for s h = seen_of s.settings.slots s.settings.n_startup_trials s.dimensions
 abbrev pub fit_made : Sampler → List ℕ → Bool
 fit_made s h = (view_for s h).reached && leb 1 (view_for s h).training.d
 
-abbrev pub fit_answer : Sampler → List ℕ → Fit
+abbrev pub fit_answer : Sampler → List ℕ → Result Model Refusal
 fit_answer s h = fit_for (view_for s h).training s.settings.noise_variance
 
 unfoldable pub has_model : Sampler → List ℕ → Bool
-has_model s h = fit_made s h && eqb (fit_answer s h).number 0
+has_model s h = fit_made s h && is_ok (fit_answer s h)
 
 -- ---- "The points drawn are the call's first candidates × continuous words as unit floats, point after point, one float per continuous dimension in order."
 
@@ -82,5 +82,5 @@ pub record StoresBest (s after : Sampler) (trial : ℕ) (m : Model) : Type 0 whe
 
 -- of a call
 abbrev pub BestStored : Sampler → Call → Type 0
-BestStored s (asks d trial h) = T (new_trial s (asks d trial h)) → T (has_model s h) → StoresBest s (call_of s (asks d trial h)).sampler trial (fit_answer s h).model
+BestStored s (asks d trial h) = T (new_trial s (asks d trial h)) → T (has_model s h) → (m : Model) → fit_answer s h ≡ Ok m → StoresBest s (call_of s (asks d trial h)).sampler trial m
 BestStored s (closes trial) = Unit

@@ -1,4 +1,11 @@
 -- The definitions at small points, computed; the words are what the unchanged Rust gives, with document 01's exp and sqrt. Assumes nothing.
+use Prim.Native.Nat.{ℕ}
+use Rattle.std.specs.Prelude.{Result, Ok, Err, Float}
+use Rattle.refusal.specs.declared.Refusal.{Refusal}
+use Rattle.refusal.specs.declared.Refusal.TheVariants.{OutOfDomain}
+use Rattle.arith.specs.Outcome.{made, and_then}
+use Rattle.gp_model.specs.declared.Model.{Model}
+use Rattle.search.specs.declared.Candidate.{Candidate}
 use mathlib.Core.Path.{◌≡◌, refl}
 use mathlib.Core.List.{[], ◌∷◌}
 use lib.ListN.{take, get_or}
@@ -25,24 +32,30 @@ use Rattle.gp_model.specs.Kernels.{covariance_of, similarity_of}
 use Rattle.gp_model.specs.Statistics.{all_within, lengthscale_of, mean_of, standard_of, value_deviation_of, variance_of}
 use Rattle.gp_model.proofs.Cases.{float, half, one, two, word}
 use Rattle.prediction.specs.Predict.{counts_fit, posterior_mean_of, posterior_std_of}
-use Rattle.search.specs.Search.{advance_of, optimize_acquisition_of, score_of, search_domain, point_of, start_of}
+use Rattle.search.specs.Search.{advance_of, optimum_of, optimize_acquisition_of, score_of, search_domain, point_of, start_of}
 
 -- ---- searches
+abbrev searched : Result Model Refusal → ℕ → ℕ → Result Candidate Refusal
+searched fit candidates w = and_then fit (λ m. optimize_acquisition_of m 1 candidates w)
+
+abbrev score_at : Result Model Refusal → Float → Result ℕ Refusal
+score_at fit x = made (λ m. to_bits binary64 (score_of m (x ∷ []))) fit
+
 abbrev Found : Type 0
 Found =
     -- the second of three candidates
-    (take 1 (optimize_acquisition_of two.model 1 3 0x9e3779b97f4a7c15).point ≡ (word 0x3fd93c3bae409b98 ∷ []))
-    × ((optimize_acquisition_of two.model 1 3 0x9e3779b97f4a7c15).next ≡ 0x7b07ce91e5906136)
+    (made (λ c. take 1 c.x) (searched two 3 0x9e3779b97f4a7c15) ≡ Ok (word 0x3fd93c3bae409b98 ∷ []))
+    × (made (λ c. c.next) (searched two 3 0x9e3779b97f4a7c15) ≡ Ok 0x7b07ce91e5906136)
     -- a tie: the first of two
-    × (take 1 (optimize_acquisition_of one.model 1 2 0x9e3779b97f4a7c13).point ≡ (word 0x3feb836ef5f11ff0 ∷ []))
-    × (to_bits binary64 (score_of one.model (word 0x3feb836ef5f11ff0 ∷ [])) ≡ 0x3fd9884533d43651)
-    × (to_bits binary64 (score_of one.model (word 0x3f93c5a2b4a9b840 ∷ [])) ≡ 0x3fd9884533d43651)
+    × (made (λ c. take 1 c.x) (searched one 2 0x9e3779b97f4a7c13) ≡ Ok (word 0x3feb836ef5f11ff0 ∷ []))
+    × (score_at one (word 0x3feb836ef5f11ff0) ≡ Ok 0x3fd9884533d43651)
+    × (score_at one (word 0x3f93c5a2b4a9b840) ≡ Ok 0x3fd9884533d43651)
     -- no candidate
-    × (take 1 (optimize_acquisition_of two.model 1 0 0x9e3779b97f4a7c15).point ≡ (half ∷ []))
-    × ((optimize_acquisition_of two.model 1 3 0).number ≡ 11)
+    × (made (λ c. take 1 c.x) (searched two 0 0x9e3779b97f4a7c15) ≡ Ok (half ∷ []))
+    × (searched two 3 0 ≡ Err OutOfDomain)
 
 found : Found
-unfolding optimize_acquisition_of search_domain counts_fit advance_of score_of expected_improvement_of norm_cdf_of norm_pdf_of polynomial_of upper_of unit_of moved_of next_of xor_left xor_right posterior_mean_of posterior_std_of fit_of fit_domain fitted_of all_within every covariance_of similarity_of lengthscale_of variance_of mean_of value_deviation_of standard_of least_of_first cholesky_of columns_of rows_of less_of grown solve_of backward_of matern52_of scaled_root_of decay_of sum_over exp_of horner_of reduced_of scaled_of whole_of nearest_of round_of sqrt_of root_of isqrt of_bits to_bits round add sub mul div neg lt le is_nan of_int
+unfolding optimize_acquisition_of optimum_of search_domain counts_fit advance_of score_of expected_improvement_of norm_cdf_of norm_pdf_of polynomial_of upper_of unit_of moved_of next_of xor_left xor_right posterior_mean_of posterior_std_of fit_of fit_domain fitted_of all_within every covariance_of similarity_of lengthscale_of variance_of mean_of value_deviation_of standard_of least_of_first cholesky_of columns_of rows_of less_of grown solve_of backward_of matern52_of scaled_root_of decay_of sum_over exp_of horner_of reduced_of scaled_of whole_of nearest_of round_of sqrt_of root_of isqrt of_bits to_bits round add sub mul div neg lt le is_nan of_int
 found = (refl, refl, refl, refl, refl, refl, refl)
 
 -- ---- eight at a time, from the words of document 01's sample book: 1, 40822041, 100041060c011441

@@ -19,12 +19,15 @@ use Rattle.arith.proofs.Scan.{best, best_of, best_at, Best}
 use Rattle.rng_util.specs.Draws.{unit_of}
 use Rattle.rng_util.specs.Generator.{moved_of, stream_of}
 use Rattle.rng_util.proofs.Stream.{moved-add, stream_at}
+use Rattle.std.specs.Prelude.{Result, Ok, Err}
+use Rattle.refusal.specs.declared.Refusal.{Refusal}
+use Rattle.refusal.specs.declared.Refusal.TheVariants.{OutOfDomain}
 use Rattle.gp_model.specs.declared.Model.{Model}
+use Rattle.search.specs.declared.Candidate.{Candidate}
 use Rattle.search.specs.declared.Search.{Search}
 use Rattle.search.specs.Earliest.{drawn_of, Earliest}
 use Rattle.prediction.specs.Predict.{posterior_at}
-use Rattle.search.specs.Search.{point_of, score_of, start_of, candidate_of, advance_of, found_of, search_domain, optimize_acquisition_of}
-use Rattle.search.proofs.Domain.{search-columns}
+use Rattle.search.specs.Search.{point_of, score_of, start_of, candidate_of, advance_of, found_of, optimum_of, search_domain, optimize_acquisition_of}
 
 -- ---- scores
 pub score-real : (m : Model) (p : List Float) → real (score_of m p)
@@ -143,17 +146,26 @@ module _ (m : Model) (w : ℕ) (candidates : ℕ) where
           let b = q.0 in
           subst (λ (v : Float). T (lt v (score_of m (drawn c)))) (at-drawn k (omega arith)) (subst (λ (b : Float). T (lt (get_or scores k nan) b)) (same q) (q.2 k l))
 
-pub earliest : (m : Model) (candidates w : ℕ) → Earliest m candidates w (found_of (advance_of m candidates (start_of m.d w)))
-unfolding advance_of
+pub earliest : (m : Model) (candidates w : ℕ) → Earliest m candidates w (optimum_of m candidates w)
+unfolding optimum_of advance_of
 earliest m zero w = record { moved = unfold moved_of in rw zero-mul; none = λ _. refl; found = λ h. absurd (not-suc-le-zero h) }
 earliest m (suc n) w =
     subst (λ (s : Search). Earliest m (suc n) w (found_of s)) (sym (state m w (suc n) n (omega arith)))
     (record { moved = refl; none = λ e. absurd (suc-ne-zero n e); found = λ h. unfold Found in found m w (suc n) h })
 
--- ---- the search
-pub search-earliest : (m : Model) (dims candidates w : ℕ) → T (search_domain m dims w) → Earliest m candidates w (optimize_acquisition_of m dims candidates w)
+-- ---- the search, in its domain
+pub optimizes : (m : Model) (dims candidates w : ℕ) → T (search_domain m dims w) → optimize_acquisition_of m dims candidates w ≡ Ok (optimum_of m candidates w)
 unfolding optimize_acquisition_of
-search-earliest m dims candidates w h =
-    let t : search_domain m dims w ≡ true = bits.is_true (search_domain m dims w) h in
-    let e : dims ≡ m.d = search-columns m dims w t in
-    rw (t, e) (earliest m candidates w)
+optimizes m dims candidates w h = rw (bits.is_true (search_domain m dims w) h)
+
+-- what is answered is what it finds
+pub optimized : (m : Model) (dims candidates w : ℕ) (found : Candidate) → optimize_acquisition_of m dims candidates w ≡ Ok found → found ≡ optimum_of m candidates w
+unfolding optimize_acquisition_of
+optimized m dims candidates w found = go (search_domain m dims w)
+  where
+    go : (b : Bool) → cond {A = Result Candidate Refusal} b (Ok (optimum_of m candidates w)) (Err OutOfDomain) ≡ Ok found → found ≡ optimum_of m candidates w
+    go true e = cc
+    go false e = cc
+
+pub search-earliest : (m : Model) (dims candidates w : ℕ) (found : Candidate) → optimize_acquisition_of m dims candidates w ≡ Ok found → Earliest m candidates w found
+search-earliest m dims candidates w found e = subst (Earliest m candidates w) (sym (optimized m dims candidates w found e)) (earliest m candidates w)

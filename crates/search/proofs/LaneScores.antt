@@ -17,7 +17,7 @@ use Rattle.arith.specs.Outcome.{value_of}
 use Rattle.root.specs.Sqrt.{sqrt_of}
 use Rattle.arith.specs.Sums.{sum_over, products}
 use Rattle.arith.proofs.Lists.{grown-at, grown-length, padded-at, padded-length, filled-past}
-use Rattle.factor.specs.Solve.{solve_of}
+use Rattle.factor.specs.Solve.{solution_of}
 use Rattle.lane_kernels.specs.Kernels.{kernel_rows_of, kernel_lanes_of}
 use Rattle.lanes.specs.Rows.{cell, eight_of, lane_of, lanes_of, rows_of}
 use Rattle.lanes.specs.Solving.{solve_lanes_of}
@@ -76,14 +76,14 @@ module _ (x ls chol alpha : List Float) (best : Float) (n d : ℕ) (c : List (Li
       ∙ sum_same n _ _ (λ i h. rw (kernel-cell i p h g))
       ∙ sym (products-take (alone p) alpha n (alone-length p)))
 
-  product-lane : (p : ℕ) → p < 8 → get_or (dot_lanes_of beside (solve_lanes_of chol beside n) n) p nan ≡ products (alone p) (take n (solve_of chol (padded 100 (alone p)) n).x)
+  product-lane : (p : ℕ) → p < 8 → get_or (dot_lanes_of beside (solve_lanes_of chol beside n) n) p nan ≡ products (alone p) (take n (solution_of chol (padded 100 (alone p)) n))
   unfolding dot_lanes_of solve_lanes_of
   product-lane p g =
-      let v = (solve_of chol (padded 100 (alone p)) n).x in
-      let solved : (i : ℕ) → i < n → cell (rows_of (lanes_of (λ q. (solve_of chol (lane_of beside 100 q) n).x) n)) i p ≡ get_or v i nan =
-      (λ i h. lanes_at (λ q. (solve_of chol (lane_of beside 100 q) n).x) n i p h g ∙ ap (λ (b : List Float). get_or (solve_of chol b n).x i nan) (kernel-lane p g)) in
+      let v = solution_of chol (padded 100 (alone p)) n in
+      let solved : (i : ℕ) → i < n → cell (rows_of (lanes_of (λ q. solution_of chol (lane_of beside 100 q) n) n)) i p ≡ get_or v i nan =
+      (λ i h. lanes_at (λ q. solution_of chol (lane_of beside 100 q) n) n i p h g ∙ ap (λ (b : List Float). get_or (solution_of chol b n) i nan) (kernel-lane p g)) in
       rw (le-leb n 100 top)
-      (eight-at (λ q. sum_over n (λ i. mul binary64 (cell beside i q) (cell (rows_of (lanes_of (λ q. (solve_of chol (lane_of beside 100 q) n).x) n)) i q))) refl p g
+      (eight-at (λ q. sum_over n (λ i. mul binary64 (cell beside i q) (cell (rows_of (lanes_of (λ q. solution_of chol (lane_of beside 100 q) n) n)) i q))) refl p g
       ∙ sum_same n _ (λ i. mul binary64 (get_or (alone p) i nan) (get_or v i nan)) (λ i h. rw (kernel-cell i p h g, solved i h))
       ∙ sym (products-take (alone p) v n (alone-length p)))
 

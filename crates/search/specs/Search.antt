@@ -1,7 +1,9 @@
 -- "`optimize_acquisition`: strict > from minus infinity, so ties keep the earlier point." A search is an advance by all candidates from the start. Definitions only.
-use Rattle.std.specs.Prelude.{ℕ, zero, suc, Bool, true, cond, not, ◌&&◌, List, [], eqb, leb, replicate, Float}
+use Rattle.std.specs.Prelude.{ℕ, zero, suc, Bool, true, cond, not, ◌&&◌, List, eqb, leb, replicate, Float, Result, Ok, Err}
 use Rattle.std.specs.Float.{inf, binary64}
 use Rattle.std.specs.Float.Ieee.{lt, of_bits}
+use Rattle.refusal.specs.declared.Refusal.{Refusal}
+use Rattle.refusal.specs.declared.Refusal.TheVariants.{OutOfDomain}
 use Rattle.acquisition.specs.Improvement.{expected_improvement_of}
 use Rattle.arith.specs.Lists.{list_of, padded}
 use Rattle.arith.specs.Outcome.{value_of}
@@ -10,7 +12,6 @@ use Rattle.rng_util.specs.Generator.{moved_of}
 use Rattle.search.specs.declared.Candidate.{Candidate}
 use Rattle.gp_model.specs.declared.Model.{Model}
 use Rattle.search.specs.declared.Search.{Search}
-use Rattle.search.specs.declared.Searched.{Searched}
 use Rattle.prediction.specs.Predict.{posterior_at, counts_fit}
 
 -- the next d words as unit floats
@@ -21,8 +22,8 @@ abbrev pub draw_of : ℕ → ℕ → Candidate
 draw_of d w = record { x = padded 20 (point_of d w); next = moved_of d w }
 
 -- the same as an answer: over 20 coordinates, or a zero word, are 11
-unfoldable pub draw_point_of : ℕ → ℕ → Searched
-draw_point_of d w = cond (leb d 20 && not (eqb w 0)) (record { number = 0; point = padded 20 (point_of d w); next = moved_of d w }) (record { number = 11; point = padded 20 []; next = w })
+unfoldable pub draw_point_of : ℕ → ℕ → Result Candidate Refusal
+draw_point_of d w = cond (leb d 20 && not (eqb w 0)) (Ok (draw_of d w)) (Err OutOfDomain)
 
 -- a model of these parts
 abbrev pub parts_of : List Float → List Float → List Float → List Float → Float → ℕ → ℕ → Model
@@ -54,10 +55,20 @@ unfoldable pub search_domain : Model → ℕ → ℕ → Bool
 unfolding counts_fit
 search_domain m dims w = counts_fit m.n m.d && eqb dims m.d && not (eqb w 0)
 
-abbrev pub found_of : Search → Searched
-found_of s = record { number = 0; point = s.best_x; next = s.word }
+abbrev pub found_of : Search → Candidate
+found_of s = record { x = s.best_x; next = s.word }
 
-unfoldable pub optimize_acquisition_of : Model → ℕ → ℕ → ℕ → Searched
-unfolding search_domain advance_of
-optimize_acquisition_of m dims candidates w =
-    cond (search_domain m dims w) (found_of (advance_of m candidates (start_of dims w))) (record { number = 11; point = padded 20 []; next = w })
+-- what a search finds
+unfoldable pub optimum_of : Model → ℕ → ℕ → Candidate
+unfolding advance_of
+optimum_of m candidates w = found_of (advance_of m candidates (start_of m.d w))
+
+-- the same as an answer: 11 outside its domain
+unfoldable pub optimize_acquisition_of : Model → ℕ → ℕ → ℕ → Result Candidate Refusal
+unfolding search_domain optimum_of
+optimize_acquisition_of m dims candidates w = cond (search_domain m dims w) (Ok (optimum_of m candidates w)) (Err OutOfDomain)
+
+-- the generator's word after an answer: a refusal leaves it as it was
+abbrev pub word_after : Result Candidate Refusal → ℕ → ℕ
+word_after (Ok found) w = found.next
+word_after (Err r) w = w

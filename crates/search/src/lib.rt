@@ -8,15 +8,7 @@ pub mod searching;
 
 pub use searching::{draw_point, optimize_acquisition};
 
-// What a search found: number is 0, or 11 with zeros and the word as it was.
-#[derive(Drop)]
-pub struct Searched {
-    pub number: u64,
-    pub point: [f64; 20],
-    pub next: u64,
-}
-
-// A point drawn, and the generator's word after it.
+// A point, and the generator's word after the draws.
 #[derive(Drop)]
 pub struct Candidate {
     pub x: [f64; 20],

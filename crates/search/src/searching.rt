@@ -1,15 +1,17 @@
 // The search for the point with the highest expected improvement.
-ghost use Rattle.std.specs.Prelude.{◌≡◌, T, replicate, ◌≤◌, ◌<◌};
+ghost use Rattle.std.specs.Prelude.{◌≡◌, Ok, replicate, ◌≤◌, ◌<◌};
 ghost use Rattle.std.specs.Float.{binary64};
 ghost use Rattle.std.specs.Float.Ieee.{of_bits};
 ghost use Rattle.arith.specs.Lists.{padded};
 ghost use Rattle.rng_util.proofs.Nonzero.{Nonzero};
+ghost use Rattle.search.specs.declared.Candidate.{Candidate};
 ghost use Rattle.search.specs.Earliest.{Earliest};
 ghost use Rattle.search.specs.Lent.{model_of};
 ghost use Rattle.search.specs.Search.{draw_of, draw_point_of, advance_of, search_domain, optimize_acquisition_of};
 
-use crate::{Candidate, Lent, Search, Searched, eights};
+use crate::{Candidate, Lent, Search, eights};
 use gp_model::Model;
+use refusal::Refusal;
 
 // The next d words as unit floats, and the word after them.
 pub(crate) fn draw(word: u64, d: usize) -> Candidate
@@ -28,25 +30,13 @@ pub(crate) fn draw(word: u64, d: usize) -> Candidate
 
 // A point of d unit floats, at most 20; over 20 and a zero word are 11.
 #[tactic(auto, unfolding(crate::specs::Search::draw_point_of))]
-pub fn draw_point(d: usize, word: u64) -> Searched
+pub fn draw_point(d: usize, word: u64) -> Result<Candidate, Refusal>
     ensures { result ≡ draw_point_of d word }
 {
-    if d <= 20 {
-        if word != 0 {
-            let c = draw(word, d);
-            let point = c.x;
-            return Searched {
-                number: 0,
-                point,
-                next: c.next,
-            };
-        }
+    if d > 20 || word == 0 {
+        return Err(Refusal::OutOfDomain);
     }
-    Searched {
-        number: 11,
-        point: [0.0; 20],
-        next: word,
-    }
+    Ok(draw(word, d))
 }
 
 // That many candidates more, at most eight at a time.
@@ -75,42 +65,43 @@ fn halves(d: usize) -> [f64; 20]
     x
 }
 
-// The earliest point, of those drawn, with the highest expected improvement: 11 outside its domain.
-pub fn optimize_acquisition(m: Model, n_dims: usize, n_candidates: u64, word: u64) -> Searched
-    ensures is { result ≡ optimize_acquisition_of m n_dims n_candidates word }
-    ensures earliest { T (search_domain m n_dims word) → Earliest m n_candidates word result }
+// Whether a search takes this model, column count and word.
+#[tactic(auto, unfolding(crate::specs::Search::search_domain))]
+fn in_domain(m: &Model, n_dims: usize, word: u64) -> bool
+    ensures { result ≡ search_domain m.now n_dims word }
 {
-    if prediction::counts_fit(m.n, m.d) {
-        if n_dims == m.d {
-            if word != 0 {
-                let best_x = halves(m.d);
-                let start = Search {
-                    word,
-                    best_ei: -1.0 / 0.0,
-                    best_x,
-                };
-                let lent = Lent {
-                    x_train: &m.x_train,
-                    lengthscales: &m.lengthscales,
-                    cholesky: &m.cholesky,
-                    alpha: &m.alpha,
-                    f_best: m.f_best,
-                    n: m.n,
-                    d: m.d,
-                };
-                let s = advance(lent, start, n_candidates);
-                let point = s.best_x;
-                return Searched {
-                    number: 0,
-                    point,
-                    next: s.word,
-                };
-            }
-        }
+    prediction::counts_fit(m.n, m.d) && n_dims == m.d && word != 0
+}
+
+// The earliest point, of those drawn, with the highest expected improvement: 11 outside its domain.
+pub fn optimize_acquisition(
+    m: Model,
+    n_dims: usize,
+    n_candidates: u64,
+    word: u64,
+) -> Result<Candidate, Refusal>
+    ensures is { result ≡ optimize_acquisition_of m n_dims n_candidates word }
+    ensures earliest { (found : Candidate) → result ≡ Ok found → Earliest m n_candidates word found }
+{
+    if !in_domain(&m, n_dims, word) {
+        return Err(Refusal::OutOfDomain);
     }
-    Searched {
-        number: 11,
-        point: [0.0; 20],
-        next: word,
-    }
+    let best_x = halves(m.d);
+    let start = Search {
+        word,
+        best_ei: -1.0 / 0.0,
+        best_x,
+    };
+    let lent = Lent {
+        x_train: &m.x_train,
+        lengthscales: &m.lengthscales,
+        cholesky: &m.cholesky,
+        alpha: &m.alpha,
+        f_best: m.f_best,
+        n: m.n,
+        d: m.d,
+    };
+    let best = advance(lent, start, n_candidates);
+    let x = best.best_x;
+    Ok(Candidate { x, next: best.word })
 }
