@@ -1,7 +1,7 @@
 -- Answers that are values. Assumes nothing.
 use Rattle.refusal.specs.declared.Refusal.{Refusal}
-use Rattle.std.specs.Prelude.{Result, Ok, Err}
-use Rattle.std.proofs.Common.{◌≡◌, Bool, true, false, sym, ap, ◌∙◌, true≢false}
+use Rattle.std.specs.Prelude.{Result, Ok}
+use Rattle.std.proofs.Common.{◌≡◌, Bool, true, false, sym, ap, ◌∙◌}
 use lib.Ieee.{Float}
 use Rattle.arith.specs.Outcome.{made, pick, value_of}
 

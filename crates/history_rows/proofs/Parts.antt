@@ -15,10 +15,10 @@ use Rattle.arith.proofs.Passing.{all_every, all_front}
 use Rattle.arith.proofs.Chunks.{chunk_at, chunk_count}
 use Rattle.history_rows.specs.Chunks.{slots_in}
 use Rattle.history_rows.specs.Rows.{width_of, row_count, row_at, slot_at}
-use native.Mathlib.Nat.{mul-div_cancel, div-mul-le_self, add-sub_cancel_left, zero-mul, sub-zero}
+use native.Mathlib.Nat.{mul-div_cancel, div-mul-le_self, add-sub_cancel_left}
 use native.Mathlib.Omega.{arith}
 use lib.ListN.{length, get_or, take, drop, length-drop}
-use lib.Seq.{drop-drop, length-take-le, get_or-take, get_or-drop}
+use lib.Seq.{drop-drop, length-take-le}
 
 -- w words from the place at
 pub part : (w : ℕ) (r : List ℕ) (at : ℕ) → take (at + w - at) (drop at r) ≡ take w (drop at r)
