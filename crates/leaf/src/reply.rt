@@ -46,12 +46,9 @@ pub(crate) fn put_float(x: f64, results: &mut Results) -> Reply {
     put([arith::word_of_float(x)], results)
 }
 
-// The value of a function with a domain.
-pub(crate) fn outcome(o: Result<f64, Refusal>) -> Result<f64, Failure> {
-    match o {
-        Ok(x) => Ok(x),
-        Err(refusal) => Err(Failure::Refused(refusal.number())),
-    }
+// What a call answers, its refusal by the number.
+pub(crate) fn outcome<T>(answer: Result<T, Refusal>) -> Result<T, Failure> {
+    answer.map_err(|refusal| Failure::Refused(refusal.number()))
 }
 
 // Refuses the call where the number of an answer is not 0.
