@@ -8,7 +8,7 @@ use mathlib.Core.List.{List, [], ◌∷◌}
 use lib.ListN.{length, take, length-append}
 use Rattle.distribution.specs.Shape.{continuous_of}
 use Rattle.arith.specs.Lists.{places_of}
-use Rattle.arith.proofs.Lists.{filled-set-at, filled-take, filled-length, places-length}
+use Rattle.arith.proofs.Lists.{filled-set-at, filled-take, places-length}
 use Rattle.history.specs.declared.Places.{Places}
 use Rattle.dimensions.specs.declared.DimensionInfo.{DimensionInfo}
 use Rattle.dimensions.specs.Dimensions.{dimension_at, columns_of}

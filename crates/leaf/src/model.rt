@@ -2,10 +2,9 @@
 // its counts say is none of these.
 ghost use Rattle.std.specs.Prelude.{◌≡◌, ◌≤◌, length, IfOk};
 
-use crate::reply::{Failure, Reply, Results, Written, accepted, exactly, outcome, put, put_float};
+use crate::reply::{Failure, Reply, Results, Written, exactly, outcome, put, put_float};
 use gp_model::Model;
-use prediction::Prediction;
-use search::Searched;
+use search::Candidate;
 
 // The data of a fit: its rows of d columns, one after the other, and their values.
 #[derive(Clone, Copy)]
@@ -71,14 +70,12 @@ fn data(args: &[u64]) -> Option<(FitData<'_>, &[u64])> {
 fn fit(data: FitData) -> Result<Model, Failure> {
     let rows = as_floats(data.rows)?;
     let values = as_floats(data.values)?;
-    let f = gp_model::fit_gp(
+    outcome(gp_model::fit_gp(
         &rows[..data.rows.len()],
         &values[..data.values.len()],
         data.d,
         data.noise_var,
-    );
-    accepted(f.number)?;
-    Ok(f.model)
+    ))
 }
 
 // The model fitted to the data of a line, where this many words follow them, and those words.
@@ -128,8 +125,7 @@ pub(crate) fn predict(args: &[u64], results: &mut Results) -> Reply {
     };
     let (m, point) = fitted(args, *d)?;
     let xs = as_floats(point)?;
-    let p = prediction::predict(m, &xs[..point.len()]);
-    accepted(p.number)?;
+    let p = outcome(prediction::predict(m, &xs[..point.len()]))?;
     put(
         [arith::word_of_float(p.mean), arith::word_of_float(p.std)],
         results,
@@ -137,13 +133,12 @@ pub(crate) fn predict(args: &[u64], results: &mut Results) -> Reply {
 }
 
 // The point found, of d coordinates, and the next word. It has at most 20.
-fn put_point(r: Searched, d: usize, results: &mut Results) -> Reply {
-    accepted(r.number)?;
+fn put_point(found: Candidate, d: usize, results: &mut Results) -> Reply {
     if d > 20 {
         return Err(Failure::Unreadable);
     }
-    put_floats(&mut results[..d], &r.point[..d]);
-    results[d] = r.next;
+    put_floats(&mut results[..d], &found.x[..d]);
+    results[d] = found.next;
     Ok(Written { words: d + 1 })
 }
 
@@ -151,9 +146,6 @@ pub(crate) fn optimize_acquisition(args: &[u64], results: &mut Results) -> Reply
     let (m, words) = fitted(args, 2)?;
     let [candidates, word]: [u64; 2] = exactly(words)?;
     let d = m.d;
-    put_point(
-        search::optimize_acquisition(m, d, candidates, word),
-        d,
-        results,
-    )
+    let found = outcome(search::optimize_acquisition(m, d, candidates, word))?;
+    put_point(found, d, results)
 }

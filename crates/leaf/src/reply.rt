@@ -46,12 +46,9 @@ pub(crate) fn put_float(x: f64, results: &mut Results) -> Reply {
     put([arith::word_of_float(x)], results)
 }
 
-// What a function answers, or its refusal's number.
-pub(crate) fn outcome<T>(o: Result<T, Refusal>) -> Result<T, Failure> {
-    match o {
-        Ok(x) => Ok(x),
-        Err(refusal) => Err(Failure::Refused(refusal.number())),
-    }
+// What a call answers, its refusal by the number.
+pub(crate) fn outcome<T>(answer: Result<T, Refusal>) -> Result<T, Failure> {
+    answer.map_err(|refusal| Failure::Refused(refusal.number()))
 }
 
 // Refuses the call where the number of an answer is not 0.

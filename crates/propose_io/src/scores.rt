@@ -2,9 +2,11 @@
 // stored it.
 ghost use Rattle.std.specs.Prelude.{◌<◌, ◌≤◌, length};
 
-use gp_model::{Fit, Model};
+use gp_model::Model;
 use history::Training;
+use refusal::Refusal;
 use sampler_state::Sampler;
+use search::Candidate;
 use text_laws::{Reader, Step};
 
 // Writes these words as a line.
@@ -37,44 +39,49 @@ fn is_same(a: &[f64; 20], b: &[f64; 20]) -> bool {
 }
 
 // The expected improvement at a point of d columns.
-fn score(m: &Model, x: &[f64; 20], d: usize) -> f64
+fn score(m: &Model, x: &[f64; 20], d: usize) -> Result<f64, Refusal>
     requires { d ≤ 20 }
 {
-    let p = prediction::predict(*m, &x[..d]);
-    acquisition::expected_improvement(p.mean, p.std, m.f_best)
+    let p = prediction::predict(*m, &x[..d])?;
+    Ok(acquisition::expected_improvement(p.mean, p.std, m.f_best))
 }
 
 // Every point that the search draws from this word on. The one stored is the first that equals the search's.
-fn put_points(rt: HostRuntime, trial: u64, m: &Model, d: usize, candidates: u64, word: u64) -> bool
+fn put_points(
+    rt: HostRuntime,
+    trial: u64,
+    m: &Model,
+    d: usize,
+    candidates: u64,
+    word: u64,
+) -> Result<bool, Refusal>
     requires { d ≤ 20 }
 {
-    let searched = search::optimize_acquisition(*m, d, candidates, word);
-    let best = searched.point;
+    let best = search::optimize_acquisition(*m, d, candidates, word)?.x;
     let mut found = false;
-    let mut next = word;
+    let mut word = word;
     for i in 0..candidates {
-        let drawn = search::draw_point(d, next);
-        let x = drawn.point;
+        let Candidate { x, next } = search::draw_point(d, word)?;
         let stored = !found && is_same(&x, &best);
-        let words = point_words(trial, i, score(m, &x, d), stored, &x);
+        let words = point_words(trial, i, score(m, &x, d)?, stored, &x);
         if !put_words(rt, &words[..4 + d]) {
-            return false;
+            return Ok(false);
         }
         found = found || stored;
-        next = drawn.next;
+        word = next;
     }
-    true
+    Ok(true)
 }
 
 // The model of these data.
-fn fit(t: &Training, noise_variance: f64) -> Fit
+fn fit(t: &Training, noise_variance: f64) -> Result<Model, Refusal>
     requires { (t.now.n ≤ 100) × (t.now.d ≤ 20) }
 {
     gp_model::fit_gp(&t.x[..t.n * t.d], &t.y[..t.n], t.d, noise_variance)
 }
 
 // The points of a new trial, where this sampler has a model for it. Whether all is written. (No training data have over
-// 100 rows or 20 columns.)
+// 100 rows or 20 columns, and no search by a fitted model is refused.)
 fn put_trial(rt: HostRuntime, s: &Sampler, trial: u64, h: &[u64]) -> bool {
     let settings = s.settings;
     let slots = settings.slots as usize;
@@ -87,11 +94,10 @@ fn put_trial(rt: HostRuntime, s: &Sampler, trial: u64, h: &[u64]) -> bool {
     if !v.reached || d < 1 || d > 20 || t.n > 100 {
         return true;
     }
-    let f = fit(&t, settings.noise_variance);
-    if f.number != 0 {
+    let Ok(m) = fit(&t, settings.noise_variance) else {
         return true;
-    }
-    put_points(rt, trial, &f.model, d, settings.n_candidates, s.word)
+    };
+    put_points(rt, trial, &m, d, settings.n_candidates, s.word).unwrap_or(true)
 }
 
 // Whether a trial is new: discovery had ended before the call, and the call gave the trial its place.
