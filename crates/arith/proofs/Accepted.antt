@@ -1,19 +1,12 @@
 -- Answers that are values. Assumes nothing.
 use Rattle.refusal.specs.declared.Refusal.{Refusal}
-use Rattle.std.specs.Prelude.{Result, Ok, Err}
-use Rattle.std.proofs.Common.{◌≡◌, Bool, true, false, sym, ap, ◌∙◌, true≢false}
+use Rattle.std.specs.Prelude.{Result, Ok}
+use Rattle.std.proofs.Common.{◌≡◌, Bool, true, false, sym, ap, ◌∙◌}
 use lib.Ieee.{Float}
 use Rattle.arith.specs.Outcome.{made, pick, value_of}
 
 abbrev pub Accepted : Result Float Refusal → Type 0
 Accepted o = (v : Float) × (o ≡ Ok v)
-
-abbrev is-value : Result Float Refusal → Bool
-is-value (Ok v) = true
-is-value (Err r) = false
-
-pub never-refused : (o : Result Float Refusal) (r : Refusal) → Accepted o → o ≡ Err r → ⊥
-never-refused o r a e = true≢false (ap is-value (sym a.1 ∙ e))
 
 pub accepted-value : (o : Result Float Refusal) → Accepted o → o ≡ Ok (value_of o)
 accepted-value o a = a.1 ∙ ap Ok (sym (ap value_of a.1))

@@ -1,5 +1,5 @@
 -- The lists of specs/Lists in arrays: writing the next element, and reading one back. Assumes nothing.
-use Rattle.std.proofs.Common.{◌≡◌, ℕ, zero, suc, ◌+◌, ◌-◌, ◌*◌, ◌<◌, ◌≤◌, Bool, true, false, cond, not, ◌&&◌, T, ltb, List, [], ◌∷◌, ◌++◌, length, get_or, take, drop, set, replicate, sym, refl, ap, ◌∙◌, subst, inl, inr, le_of_suc-le-suc, not-suc-le-zero, mul-le-mul_right, suc-mul, eq-or-lt_of_le, add-one, arith, T_not, length-append, get_or-append-add, ltb-false, ltb-true, le-ltb, lt-ltb}
+use Rattle.std.proofs.Common.{◌≡◌, ℕ, zero, suc, ◌+◌, ◌-◌, ◌*◌, ◌<◌, ◌≤◌, Bool, true, false, cond, not, ◌&&◌, T, ltb, List, [], ◌∷◌, ◌++◌, length, get_or, take, set, replicate, sym, refl, ap, ◌∙◌, subst, inl, inr, le_of_suc-le-suc, not-suc-le-zero, mul-le-mul_right, suc-mul, eq-or-lt_of_le, add-one, arith, T_not, length-append, get_or-append-add, ltb-false, ltb-true, le-ltb, lt-ltb}
 use mathlib.Core.Bool.{and-false}
 use lib.ListN.{length-replicate, get_or-append, get_or-replicate}
 use lib.Seq.{append_snoc, set-append_seam, get_or-append_seam, take-append_seam}
@@ -77,9 +77,6 @@ grown-at f n i h = grown-read f n i nan h
 pub padded-set : (places : ℕ) (xs : List Float) (v : Float) → length xs < places → set (padded places xs) (length xs) v ≡ padded places (xs ++ (v ∷ []))
 padded-set places xs v h = filled-set (of_bits binary64 0) places xs v h
 
-pub padded-set-at : (places : ℕ) (xs : List Float) (n : ℕ) (v : Float) → length xs ≡ n → n < places → set (padded places xs) n v ≡ padded places (xs ++ (v ∷ []))
-padded-set-at places xs n v e h = filled-set-at (of_bits binary64 0) places xs n v e h
-
 pub grown-set : (places : ℕ) (f : List Float → ℕ → Float) (n : ℕ) → n < places → set (padded places (grown f n)) n (f (grown f n) n) ≡ padded places (grown f (suc n))
 grown-set places f n h = grown-filled-set (of_bits binary64 0) places f n h
 
@@ -94,10 +91,6 @@ padded-take places xs = filled-take (of_bits binary64 0) places xs
 
 pub grown-padded-take : (places : ℕ) (f : List Float → ℕ → Float) (n : ℕ) → take n (padded places (grown f n)) ≡ grown f n
 grown-padded-take places f n = subst (λ (k : ℕ). take k (padded places (grown f n)) ≡ grown f n) (grown-length f n) (padded-take places (grown f n))
-
--- the same part as the code lends it
-pub grown-part : (places : ℕ) (f : List Float → ℕ → Float) (n : ℕ) → take (n - 0) (drop 0 (padded places (grown f n))) ≡ grown f n
-grown-part places f n = let e : n - 0 ≡ n = omega arith in rw e (grown-padded-take places f n)
 
 pub padded-length : (places : ℕ) (xs : List Float) → length xs ≤ places → length (padded places xs) ≡ places
 padded-length places xs h = filled-length (of_bits binary64 0) places xs h

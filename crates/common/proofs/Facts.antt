@@ -29,7 +29,7 @@ use Rattle.distribution.specs.declared.ParamValue.{ParamValue}
 use Rattle.distribution.specs.Shape.{power, float_shape, int_shape, shape_of, continuous_of}
 use Rattle.distribution.specs.Taken.{taken_of}
 use Rattle.distribution.proofs.Facts.{float-rules, int-rules, categorical-rules, float-taken, int-taken}
-use Rattle.encoding.specs.Bounds.{InternalBounds, scale_of, ends_of, bounds_of}
+use Rattle.encoding.specs.Bounds.{scale_of, ends_of, bounds_of}
 use Rattle.common.specs.declared.RandomDraw.{RandomDraw}
 use Rattle.common.specs.Decode.{one, inside, float_of, int_of, decoded_of, from_internal_of}
 use Rattle.encoding.specs.Encode.{to_internal_of}

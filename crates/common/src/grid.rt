@@ -5,6 +5,7 @@ ghost use Rattle.common.specs.GridParts.{StepFits};
 
 use distribution::{FloatDistribution, IntDistribution};
 
+// Kept: by two tests, since f64::max answers the limit for a NaN, and f64::clamp asks that low is at most high.
 fn raised_to(low: f64, v: f64) -> f64
     ensures { result ≡ raised_to low v }
 {

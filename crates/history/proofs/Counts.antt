@@ -1,4 +1,5 @@
 -- Training data that are not refused have at most 100 rows and 20 columns, and their arrays are full. Assumes nothing.
+use Rattle.std.specs.Prelude.{Option, Ok}
 use Prim.Native.Nat.{ℕ, ◌/◌, ◌%◌, ◌*◌, ◌≤◌}
 use mathlib.Core.Path.{◌≡◌, sym, subst}
 use mathlib.Core.List.{List}
@@ -7,13 +8,12 @@ use lib.ListN.{length, get_or}
 use lib.Ieee.{binary64, of_bits}
 use Rattle.arith.proofs.Lists.{grown-length, padded-length, places-length}
 use Rattle.dimensions.specs.declared.DimensionInfo.{DimensionInfo}
-use Rattle.param_mapping.specs.declared.Mapped.{Mapped}
 use Rattle.history.specs.declared.Training.{Training}
 use Rattle.dimensions.specs.Dimensions.{columns_of}
-use Rattle.param_mapping.specs.Mapping.{mapped_of, number_of}
+use Rattle.param_mapping.specs.Mapping.{mapped_of}
 use Rattle.history_rows.specs.Rows.{row_count, recent_of, row_at, objective_of}
 use Rattle.history.specs.Training.{trains_of, column_of, kept_of, x_of, y_of, recent_training, training_of}
-use Rattle.history.proofs.FromArray.{training-is}
+use Rattle.history.proofs.FromArray.{training-accepted}
 use Rattle.param_mapping.proofs.Opened.{opened}
 use Rattle.history.proofs.PlaceList.{columns-few}
 use Rattle.history_rows.proofs.Recent.{recent-few}
@@ -24,11 +24,11 @@ pub record Counts (t : Training) : Type 0 where
   pub x : length t.x ≡ 2000
   pub y : length t.y ≡ 100
 
-kept-few : (n m : ℕ) (mapping : List Mapped) (columns r : List ℕ) → row_count n r ≤ m → length (kept_of n mapping columns r) ≤ m
+kept-few : (n m : ℕ) (mapping : List (Option ℕ)) (columns r : List ℕ) → row_count n r ≤ m → length (kept_of n mapping columns r) ≤ m
 unfolding kept_of
 kept-few n m mapping columns r h = le_trans (places-length (row_count n r) (λ i. trains_of n mapping columns (row_at n r i))) h
 
-x-length : (n : ℕ) (dims : List DimensionInfo) (mapping : List Mapped) (columns r kept : List ℕ) → length (x_of n dims mapping columns r kept) ≡ length kept * length columns
+x-length : (n : ℕ) (dims : List DimensionInfo) (mapping : List (Option ℕ)) (columns r kept : List ℕ) → length (x_of n dims mapping columns r kept) ≡ length kept * length columns
 unfolding x_of
 x-length n dims mapping columns r kept = grown-length (λ xs p. column_of n dims mapping (row_at n r (get_or kept (p / length columns) 0)) (get_or columns (p % length columns) 0)) (length kept * length columns)
 
@@ -51,7 +51,8 @@ recent-counts n dims k r h m =
       y = padded-length 100 (y_of n r kept) (rw (y-length n r kept) p);
     }
 
-pub training-counts : (n : ℕ) (dims : List DimensionInfo) (k : ℕ) (h : List ℕ) → number_of n dims k h ≡ 0 → Counts (training_of n dims k h)
-training-counts n dims k h e =
-    let o = opened n dims k h e in
-    subst Counts (sym (training-is n dims k h e)) (recent-counts n dims k (recent_of n h) o.1 (recent-few n h o.2))
+pub training-counts : (n : ℕ) (dims : List DimensionInfo) (k : ℕ) (h : List ℕ) (t : Training) → training_of n dims k h ≡ Ok t → Counts t
+training-counts n dims k h t e =
+    let a = training-accepted n dims k h t e in
+    let o = opened n dims k h a.0 in
+    subst Counts (sym a.1) (recent-counts n dims k (recent_of n h) o.1 (recent-few n h o.2))

@@ -1,4 +1,6 @@
 -- Two rows that agree pass the same tests and, where no id stands twice, have the same mapping and the same slot under each id. Assumes nothing.
+use Rattle.std.specs.Prelude.{Option, Some, None}
+use native.Mathlib.Omega.{arith}
 use mathlib.Core.Path.{◌≡◌, refl, sym, ap, ◌∙◌, subst}
 use mathlib.Core.Bool.{Bool, true, false, not, ◌&&◌, cond}
 use mathlib.Core.List.{List, [], foldr, Permᴰ}
@@ -6,22 +8,21 @@ use mathlib.Core.Logic.{inl, inr}
 use Prim.Native.Nat.{ℕ, zero, suc}
 use lib.Dec.{T, T_not, leb, ltb, eqb→eq, ltb→lt}
 use lib.ListN.{length, get_or}
-use lib.Ieee.Fits.{and_i, and_r, eq→eqb}
+use lib.Ieee.Fits.{and_i, eq→eqb}
 use borrow.Author.Tests.{le-leb}
 use Rattle.arith.specs.Lists.{every}
 use Rattle.arith.proofs.Lists.{every-same}
 use Rattle.arith.proofs.Tests.{taken, iff}
 use Rattle.distribution.proofs.Facts.{parts}
 use Rattle.dimensions.specs.declared.DimensionInfo.{DimensionInfo}
-use Rattle.param_mapping.specs.declared.Mapped.{Mapped}
 use Rattle.history_rows.specs.Rows.{slot_at, state_of}
 use Rattle.slots.specs.Slot.{id_of}
 use Rattle.slots.specs.Slot.{present, same_id, slot_ok, agreeing}
 use Rattle.history_rows.specs.Tests.{row_ok, slots_ok, ids_once, rows_agreeing}
-use Rattle.param_mapping.specs.Mapping.{insert_by_id, entries_of, none, mapped_of}
+use Rattle.param_mapping.specs.Mapping.{insert_by_id, entries_of, mapped_of}
 use Rattle.slots.specs.Slot.{has_id}
 use Rattle.history_rows.specs.Slots.{slot_with}
-use Rattle.history.specs.Training.{covers_of, trains_of, column_of}
+use Rattle.history.specs.Training.{mapped_place, covers_of, trains_of, column_of}
 use Rattle.history.specs.RowsAgree.{RowsAgree}
 use Rattle.history.proofs.Perm.{back_of, pairs, every-pairs, back-order, every-order, pairs-order, pairs-perm, fold-perm, place-test, pick, pick-perm, pick-place}
 use Rattle.param_mapping.proofs.Sorted.{insert-swap}
@@ -103,9 +104,14 @@ module _ (n : ℕ) (a b : List ℕ) (p : RowsAgree n a b) where
   unfolding slot_with
   found-same id = place-test n (λ s. has_id id (slot_at a s)) ∙ ap not (each-slot (λ v. not (has_id id v))) ∙ sym (place-test n (λ s. has_id id (slot_at b s)))
 
-  pub trains-same : (mapping : List Mapped) (columns : List ℕ) → trains_of n mapping columns a ≡ trains_of n mapping columns b
+  covers-same : (id : Option ℕ) → covers_of n a id ≡ covers_of n b id
+  unfolding covers_of
+  covers-same (Some id) = found-same id
+  covers-same None = refl
+
+  pub trains-same : (mapping : List (Option ℕ)) (columns : List ℕ) → trains_of n mapping columns a ≡ trains_of n mapping columns b
   unfolding trains_of
-  trains-same mapping columns = every-same (length columns) _ _ (λ c l. rw (found-same (get_or mapping (get_or columns c 0) none).id))
+  trains-same mapping columns = every-same (length columns) _ _ (λ c l. covers-same (get_or mapping (get_or columns c 0) None))
 
   -- where no id stands twice in the row
   module _ (ids : T (ids_once n a)) where
@@ -129,9 +135,14 @@ module _ (n : ℕ) (a b : List ℕ) (p : RowsAgree n a b) where
         at : (row : List ℕ) → T (pairs apart (slots n row)) → T (ltb (slot_with n row id) n) → slot_at row (slot_with n row id) ≡ pick (has_id id) [] (slots n row)
         at row d l = pick-place apart apart-sym (has_id id) (one-slot id) [] (λ s. slot_at row s) n d (ltb→lt (slot_with n row id) n l)
 
-    pub column-same : (dims : List DimensionInfo) (mapping : List Mapped) (j : ℕ) → T (covers_of n a (get_or mapping j none)) → column_of n dims mapping a j ≡ column_of n dims mapping b j
-    unfolding column_of covers_of
-    column-same dims mapping j h = rw (slot_same (get_or mapping j none).id (and_r (get_or mapping j none).found _ h))
+    mapped-slot : (id : Option ℕ) → T (covers_of n a id) → slot_at a (mapped_place n a id) ≡ slot_at b (mapped_place n b id)
+    unfolding covers_of
+    mapped-slot (Some id) h = slot_same id h
+    mapped-slot None h = let l = ltb→lt n n h in absurd (omega arith)
+
+    pub column-same : (dims : List DimensionInfo) (mapping : List (Option ℕ)) (j : ℕ) → T (covers_of n a (get_or mapping j None)) → column_of n dims mapping a j ≡ column_of n dims mapping b j
+    unfolding column_of
+    column-same dims mapping j h = rw (mapped-slot (get_or mapping j None) h)
 
 -- ---- two rows with two others
 

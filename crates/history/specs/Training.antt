@@ -1,5 +1,7 @@
 -- "Training: a row lacking a mapped id for a continuous dimension is dropped; if such a dimension consumed no id, all rows are." Definitions only.
-use Rattle.std.specs.Prelude.{ℕ, ◌*◌, ◌/◌, ◌%◌, Bool, ◌&&◌, cond, List, [], eqb, ltb, length, get_or, Float}
+use Rattle.refusal.specs.declared.Refusal.{Refusal}
+use Rattle.std.specs.Prelude.{ℕ, ◌*◌, ◌/◌, ◌%◌, Bool, List, ltb, length, get_or, Float, Option, Some, None, Result, Ok}
+use Rattle.std.specs.Result.{result_and}
 use Rattle.std.specs.Float.{binary64}
 use Rattle.std.specs.Float.Ieee.{of_bits}
 use Rattle.arith.specs.Lists.{every, list_of, padded, places_of}
@@ -7,25 +9,29 @@ use Rattle.arith.specs.Outcome.{value_of}
 use Rattle.encoding.specs.Encode.{to_internal_of}
 use Rattle.scaling.specs.Scaling.{to_normalized_of}
 use Rattle.dimensions.specs.declared.DimensionInfo.{DimensionInfo}
-use Rattle.param_mapping.specs.declared.Mapped.{Mapped}
 use Rattle.history.specs.declared.Training.{Training}
 use Rattle.dimensions.specs.Dimensions.{dimension_at, columns_of}
-use Rattle.param_mapping.specs.Mapping.{none, mapped_of, number_of}
+use Rattle.param_mapping.specs.Mapping.{mapped_of, asked_of}
 use Rattle.history_rows.specs.Rows.{row_at, slot_at, objective_of, row_count, recent_of}
 use Rattle.slots.specs.Slot.{taken_word}
 use Rattle.history_rows.specs.Slots.{slot_with}
 use Rattle.slots.specs.Slot.{value_read}
 use Rattle.slots.specs.Slot.{slot_read}
 
--- the row has a slot for a dimension of that mapping
-unfoldable pub covers_of : ℕ → List ℕ → Mapped → Bool
+-- the place of a row's slot for a dimension of that id, or n; a dimension without an id has none
+abbrev pub mapped_place : ℕ → List ℕ → Option ℕ → ℕ
+mapped_place n row (Some id) = slot_with n row id
+mapped_place n row None = n
+
+-- the row has a slot for it
+unfoldable pub covers_of : ℕ → List ℕ → Option ℕ → Bool
 unfolding slot_with
-covers_of n row m = m.found && ltb (slot_with n row m.id) n
+covers_of n row id = ltb (mapped_place n row id) n
 
 -- the row has one for each of these dimensions
-unfoldable pub trains_of : ℕ → List Mapped → List ℕ → List ℕ → Bool
+unfoldable pub trains_of : ℕ → List (Option ℕ) → List ℕ → List ℕ → Bool
 unfolding covers_of
-trains_of n mapping columns row = every (length columns) (λ c. covers_of n row (get_or mapping (get_or columns c 0) none))
+trains_of n mapping columns row = every (length columns) (λ c. covers_of n row (get_or mapping (get_or columns c 0) None))
 
 -- a slot's value under a dimension: `to_internal`, then scaled by the dimension's bounds
 unfoldable pub entry_of : DimensionInfo → List ℕ → Float
@@ -33,17 +39,17 @@ unfolding slot_read
 entry_of d v = to_normalized_of (value_of (to_internal_of (value_read (slot_read v) (taken_word v)) d.distribution)) d.lo d.hi
 
 -- a row's value for dimension j
-unfoldable pub column_of : ℕ → List DimensionInfo → List Mapped → List ℕ → ℕ → Float
+unfoldable pub column_of : ℕ → List DimensionInfo → List (Option ℕ) → List ℕ → ℕ → Float
 unfolding slot_with entry_of
-column_of n dims mapping row j = entry_of (dimension_at dims j) (slot_at row (slot_with n row (get_or mapping j none).id))
+column_of n dims mapping row j = entry_of (dimension_at dims j) (slot_at row (mapped_place n row (get_or mapping j None)))
 
 -- the rows that train
-unfoldable pub kept_of : ℕ → List Mapped → List ℕ → List ℕ → List ℕ
+unfoldable pub kept_of : ℕ → List (Option ℕ) → List ℕ → List ℕ → List ℕ
 unfolding row_count trains_of
 kept_of n mapping columns r = places_of (row_count n r) (λ i. trains_of n mapping columns (row_at n r i))
 
 -- their values, row after row, and their objectives
-unfoldable pub x_of : ℕ → List DimensionInfo → List Mapped → List ℕ → List ℕ → List ℕ → List Float
+unfoldable pub x_of : ℕ → List DimensionInfo → List (Option ℕ) → List ℕ → List ℕ → List ℕ → List Float
 unfolding column_of
 x_of n dims mapping columns r kept =
     list_of (λ p. column_of n dims mapping (row_at n r (get_or kept (p / length columns) 0)) (get_or columns (p % length columns) 0)) (length kept * length columns)
@@ -52,9 +58,9 @@ unfoldable pub y_of : ℕ → List ℕ → List ℕ → List Float
 y_of n r kept = list_of (λ c. of_bits binary64 (objective_of (row_at n r (get_or kept c 0)))) (length kept)
 
 -- of the recent rows r
-abbrev pub built_of : ℕ → List DimensionInfo → List Mapped → List ℕ → List ℕ → List ℕ → Training
+abbrev pub built_of : ℕ → List DimensionInfo → List (Option ℕ) → List ℕ → List ℕ → List ℕ → Training
 built_of n dims mapping columns r kept =
-    record { number = 0; n = length kept; d = length columns; x = padded 2000 (x_of n dims mapping columns r kept); y = padded 100 (y_of n r kept) }
+    record { n = length kept; d = length columns; x = padded 2000 (x_of n dims mapping columns r kept); y = padded 100 (y_of n r kept) }
 
 unfoldable pub recent_training : ℕ → List DimensionInfo → ℕ → List ℕ → Training
 unfolding mapped_of columns_of kept_of x_of y_of
@@ -63,9 +69,6 @@ recent_training n dims k r =
     let columns = columns_of dims k in
     built_of n dims mapping columns r (kept_of n mapping columns r)
 
-abbrev pub refused_of : ℕ → Training
-refused_of number = record { number = number; n = 0; d = 0; x = padded 2000 []; y = padded 100 [] }
-
-unfoldable pub training_of : ℕ → List DimensionInfo → ℕ → List ℕ → Training
-unfolding number_of recent_of recent_training
-training_of n dims k h = cond (eqb (number_of n dims k h) 0) (recent_training n dims k (recent_of n h)) (refused_of (number_of n dims k h))
+unfoldable pub training_of : ℕ → List DimensionInfo → ℕ → List ℕ → Result Training Refusal
+unfolding asked_of recent_of recent_training
+training_of n dims k h = result_and (asked_of n dims k h) (Ok (recent_training n dims k (recent_of n h)))

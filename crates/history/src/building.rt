@@ -1,17 +1,17 @@
 // The training data of the recent rows.
-ghost use Rattle.std.specs.Prelude.{◌≡◌, ℕ, ◌≤◌, ◌<◌, length, get_or};
+ghost use Rattle.std.specs.Prelude.{◌≡◌, ℕ, ◌≤◌, ◌<◌, length, get_or, None};
 ghost use Rattle.arith.specs.Lists.{filled, padded, places_of};
 ghost use Rattle.history.specs.Cells.{Cells};
-ghost use Rattle.param_mapping.specs.Mapping.{none, mapped_of};
+ghost use Rattle.param_mapping.specs.Mapping.{mapped_of};
 ghost use Rattle.history.specs.Places.{places_in};
 ghost use Rattle.history_rows.specs.Rows.{row_at, row_count};
-ghost use Rattle.history.specs.Training.{trains_of, x_of, y_of, built_of, refused_of, recent_training, training_of};
+ghost use Rattle.history.specs.Training.{trains_of, x_of, y_of, built_of, recent_training, training_of};
 
 use crate::columns::Columns;
 use crate::rows::Rows;
 use crate::{Places, Training, columns};
 use dimensions::DimensionInfo;
-use param_mapping::Mapped;
+use refusal::Refusal;
 
 // The rows that train.
 fn kept(rows: &Rows, columns: &Columns) -> Places
@@ -59,7 +59,6 @@ fn built(rows: &Rows, columns: &Columns, kept: &[usize]) -> Training
     let x = x_train(rows, columns, kept);
     let y = y_train(rows, kept);
     Training {
-        number: 0,
         n: kept.len(),
         d: columns.places.len(),
         x,
@@ -80,9 +79,9 @@ fn recent_training(
     rows: &Rows,
     dims: &[DimensionInfo; 20],
     k: usize,
-    mapping: &[Mapped; 20],
+    mapping: &[Option<u64>; 20],
 ) -> Training
-    requires { (k ≤ 20) × (rows.now.count ≡ row_count rows.now.slots rows.now.words.now) × (mapping.now ≡ filled none 20 (mapped_of rows.now.slots dims.now k (row_at rows.now.slots rows.now.words.now 0))) }
+    requires { (k ≤ 20) × (rows.now.count ≡ row_count rows.now.slots rows.now.words.now) × (mapping.now ≡ filled None 20 (mapped_of rows.now.slots dims.now k (row_at rows.now.slots rows.now.words.now 0))) }
     ensures { result ≡ recent_training rows.now.slots dims.now k rows.now.words.now }
 {
     let places = columns::continuous(dims, k);
@@ -94,32 +93,21 @@ fn recent_training(
     of_columns(rows, &columns)
 }
 
-// A refusal: its number, with zeros.
-fn refused(number: u64) -> Training
-    ensures { result ≡ refused_of number }
-{
-    Training {
-        number,
-        n: 0,
-        d: 0,
-        x: [0.0; 2000],
-        y: [0.0; 100],
-    }
-}
-
 // The training data of a history for k dimensions.
-pub fn build_training_data(slots: usize, dims: [DimensionInfo; 20], k: usize, h: &[u64]) -> Training
+pub fn build_training_data(
+    slots: usize,
+    dims: [DimensionInfo; 20],
+    k: usize,
+    h: &[u64],
+) -> Result<Training, Refusal>
     ensures { result ≡ training_of slots dims k h.now }
 {
-    let mapping = param_mapping::establish_param_mapping(slots, dims, k, h);
-    if mapping.number != 0 {
-        return refused(mapping.number);
-    }
+    let mapping = param_mapping::establish_param_mapping(slots, dims, k, h)?;
     let recent = history_rows::recent_part(slots, h);
     let rows = Rows {
         slots,
         count: recent.rows,
         words: &h[recent.start..],
     };
-    recent_training(&rows, &dims, k, &mapping.ids)
+    Ok(recent_training(&rows, &dims, k, &mapping))
 }

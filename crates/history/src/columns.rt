@@ -1,15 +1,12 @@
 // The continuous dimensions, the model's columns.
-ghost use Rattle.std.specs.Prelude.{◌≡◌, true, [], ℕ, ◌≤◌, ◌<◌, length, get_or};
+ghost use Rattle.std.specs.Prelude.{◌≡◌, true, [], None, ℕ, ◌≤◌, ◌<◌, length, get_or};
 ghost use Rattle.dimensions.specs.Dimensions.{columns_of};
 ghost use Rattle.history.specs.Places.{places_in, with_place};
-ghost use Rattle.history.specs.Training.{trains_of, entry_of, column_of};
-ghost use Rattle.history_rows.specs.Slots.{slot_with};
-ghost use Rattle.param_mapping.specs.Mapping.{none};
+ghost use Rattle.history.specs.Training.{mapped_place, trains_of, entry_of, column_of};
 
 use crate::Places;
 use crate::rows::Row;
 use dimensions::DimensionInfo;
-use param_mapping::Mapped;
 
 impl Places {
     // No place.
@@ -62,7 +59,7 @@ fn entry(d: DimensionInfo, slot: &[u64]) -> f64
 #[derive(Clone, Copy)]
 pub(crate) struct Columns<'a> {
     pub(crate) dims: &'a [DimensionInfo; 20],
-    pub(crate) mapping: &'a [Mapped; 20],
+    pub(crate) mapping: &'a [Option<u64>; 20],
     pub(crate) places: &'a [usize],
     ghost few: { length places.now ≤ 20 },
     ghost known: { (c : ℕ) → c < length places.now → get_or places.now c 0 < 20 },
@@ -79,10 +76,9 @@ impl<'a> Columns<'a> {
     // A row's value for dimension j.
     #[tactic(auto, unfolding(crate::specs::Training::column_of))]
     pub(crate) fn value(&self, row: &Row, j: usize) -> f64
-        requires { (j < 20) × (slot_with row.now.slots row.now.words.now (get_or self.now.mapping.now j none).id < row.now.slots) }
+        requires { (j < 20) × (mapped_place row.now.slots row.now.words.now (get_or self.now.mapping.now j None) < row.now.slots) }
         ensures { result ≡ column_of row.now.slots self.now.dims.now self.now.mapping.now row.now.words.now j }
     {
-        let m = self.mapping[j];
-        entry(self.dims[j], row.slot(m.id))
+        entry(self.dims[j], row.slot(self.mapping[j]))
     }
 }

@@ -15,10 +15,9 @@ pub struct Places {
     pub at: [usize; 100],
 }
 
-// The training data: n rows of d columns, row after row, and n values. Number is 0, or a refusal's with zeros.
+// The training data: n rows of d columns, row after row, and n values.
 #[derive(Drop)]
 pub struct Training {
-    pub number: u64,
     pub n: usize,
     pub d: usize,
     pub x: [f64; 2000],

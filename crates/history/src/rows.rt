@@ -3,10 +3,7 @@ ghost use Rattle.std.specs.Prelude.{◌≡◌, ◌*◌, ◌≤◌, ◌<◌, leng
 ghost use Rattle.std.specs.Float.{binary64};
 ghost use Rattle.std.specs.Float.Ieee.{of_bits};
 ghost use Rattle.history_rows.specs.Rows.{width_of, row_at, slot_at, objective_of};
-ghost use Rattle.history_rows.specs.Slots.{slot_with};
-ghost use Rattle.history.specs.Training.{covers_of};
-
-use param_mapping::Mapped;
+ghost use Rattle.history.specs.Training.{mapped_place, covers_of};
 
 // One row.
 #[derive(Clone, Copy)]
@@ -18,19 +15,30 @@ pub(crate) struct Row<'a> {
 }
 
 impl<'a> Row<'a> {
-    // Whether it has a slot for a dimension of that mapping.
-    pub(crate) fn covers(&self, m: Mapped) -> bool
-        ensures { result ≡ covers_of self.now.slots self.now.words.now m }
+    // The place of its slot for a dimension of that id, or the number of its slots.
+    fn place(&self, id: Option<u64>) -> usize
+        ensures { result ≡ mapped_place self.now.slots self.now.words.now id }
     {
-        m.found && history_rows::slot_place(self.slots, self.words, m.id) < self.slots
+        match id {
+            Some(id) => history_rows::slot_place(self.slots, self.words, id),
+            None => self.slots,
+        }
     }
 
-    // Its slot with that id.
-    pub(crate) fn slot(&self, id: u64) -> &[u64]
-        requires { slot_with self.now.slots self.now.words.now id < self.now.slots }
-        ensures { (result.now ≡ slot_at self.now.words.now (slot_with self.now.slots self.now.words.now id)) × (length result.now ≡ 8) }
+    // Whether it has a slot for such a dimension.
+    #[tactic(auto, unfolding(crate::specs::Training::covers_of))]
+    pub(crate) fn covers(&self, id: Option<u64>) -> bool
+        ensures { result ≡ covers_of self.now.slots self.now.words.now id }
     {
-        let s = history_rows::slot_place(self.slots, self.words, id);
+        self.place(id) < self.slots
+    }
+
+    // Its slot for such a dimension.
+    pub(crate) fn slot(&self, id: Option<u64>) -> &[u64]
+        requires { mapped_place self.now.slots self.now.words.now id < self.now.slots }
+        ensures { (result.now ≡ slot_at self.now.words.now (mapped_place self.now.slots self.now.words.now id)) × (length result.now ≡ 8) }
+    {
+        let s = self.place(id);
         let at = 3 + 8 * s;
         &self.words[at..at + 8]
     }

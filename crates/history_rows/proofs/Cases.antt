@@ -14,34 +14,36 @@ use Rattle.history_rows.specs.First.{first_row_with, like_first, row_like_first,
 use Rattle.history_rows.specs.Recent.{recent_part}
 use Rattle.history_rows.specs.Slots.{slot_with, slot_place}
 use Rattle.history_rows.specs.Rows.{whole_rows, row_count, recent_count, recent_of}
-use Rattle.history_rows.specs.Tests.{row_ok, slots_ok, ids_once, rows_agreeing, recent_tests, refusal_of}
+use Rattle.history_rows.specs.Tests.{row_ok, slots_ok, ids_once, rows_agreeing, recent_tests, check_of}
 use Rattle.slots.specs.Slot.{slot_read, slot_ok, agreeing}
+use Rattle.refusal.specs.declared.Refusal.TheVariants.{BrokenRows, Objective, Slot, RepeatedId, UnequalId, OutOfDomain}
+use Rattle.std.specs.Prelude.{Ok, Err}
 use Rattle.history_rows.proofs.Samples.{slot, absent, row}
 
 abbrev Numbers : Type 0
 Numbers =
-    (refusal_of 1 [] ≡ 0)
-    × (refusal_of 1 (row 0 (slot 9 9 5) ++ row 3 absent) ≡ 0)
-    × (refusal_of 0 [] ≡ 11)
-    × (refusal_of 21 [] ≡ 11)
+    (check_of 1 [] ≡ Ok tt)
+    × (check_of 1 (row 0 (slot 9 9 5) ++ row 3 absent) ≡ Ok tt)
+    × (check_of 0 [] ≡ Err OutOfDomain)
+    × (check_of 21 [] ≡ Err OutOfDomain)
     -- not whole rows
-    × (refusal_of 1 (7 ∷ row 0 absent) ≡ 3)
+    × (check_of 1 (7 ∷ row 0 absent) ≡ Err BrokenRows)
     -- a bad state, before a bad slot of an earlier row
-    × (refusal_of 1 (row 0 (9 ∷ replicate 7 0) ++ row 4 absent) ≡ 4)
+    × (check_of 1 (row 0 (9 ∷ replicate 7 0) ++ row 4 absent) ≡ Err Objective)
     -- an objective that is a NaN
-    × (refusal_of 1 (7 ∷ 0 ∷ 0x7ff8000000000000 ∷ absent) ≡ 4)
+    × (check_of 1 (7 ∷ 0 ∷ 0x7ff8000000000000 ∷ absent) ≡ Err Objective)
     -- an absent slot with an id, and a kind of 4
-    × (refusal_of 1 (row 0 (9 ∷ replicate 7 0)) ≡ 5)
-    × (refusal_of 1 (row 0 (9 ∷ 4 ∷ replicate 6 0)) ≡ 5)
+    × (check_of 1 (row 0 (9 ∷ replicate 7 0)) ≡ Err Slot)
+    × (check_of 1 (row 0 (9 ∷ 4 ∷ replicate 6 0)) ≡ Err Slot)
     -- an id twice in a row; absent slots do not count
-    × (refusal_of 2 (row 0 (slot 9 9 5 ++ slot 9 9 5)) ≡ 6)
-    × (refusal_of 2 (row 0 (absent ++ absent)) ≡ 0)
+    × (check_of 2 (row 0 (slot 9 9 5 ++ slot 9 9 5)) ≡ Err RepeatedId)
+    × (check_of 2 (row 0 (absent ++ absent)) ≡ Ok tt)
     -- an id with two unequal distributions; with equal ones
-    × (refusal_of 1 (row 0 (slot 9 9 5) ++ row 0 (slot 9 8 5)) ≡ 7)
-    × (refusal_of 1 (row 0 (slot 9 9 5) ++ row 0 (slot 9 9 6)) ≡ 0)
+    × (check_of 1 (row 0 (slot 9 9 5) ++ row 0 (slot 9 8 5)) ≡ Err UnequalId)
+    × (check_of 1 (row 0 (slot 9 9 5) ++ row 0 (slot 9 9 6)) ≡ Ok tt)
 
 numbers : Numbers
-unfolding refusal_of recent_tests whole_rows row_count recent_count recent_of row_ok slot_read slot_ok agreeing slots_ok ids_once rows_agreeing every equal_of float_equal int_equal shape_of float_step taken_of value_of float_taken int_taken read_of checked_of float_read int_read categorical_read of_bits neg le lt eq
+unfolding check_of recent_tests whole_rows row_count recent_count recent_of row_ok slot_read slot_ok agreeing slots_ok ids_once rows_agreeing every equal_of float_equal int_equal shape_of float_step taken_of value_of float_taken int_taken read_of checked_of float_read int_read categorical_read of_bits neg le lt eq
 numbers = (refl, refl, refl, refl, refl, refl, refl, refl, refl, refl, refl, refl, refl)
 
 -- that many good rows
@@ -51,10 +53,10 @@ rows (suc n) = row 0 absent ++ rows n
 
 -- a bad state in the first of 101 rows is not read, in the first of 100 it is
 abbrev Older : Type 0
-Older = (refusal_of 1 (row 4 absent ++ rows 100) ≡ 0) × (refusal_of 1 (row 4 absent ++ rows 99) ≡ 4)
+Older = (check_of 1 (row 4 absent ++ rows 100) ≡ Ok tt) × (check_of 1 (row 4 absent ++ rows 99) ≡ Err Objective)
 
 older : Older
-unfolding refusal_of recent_tests whole_rows row_count recent_count recent_of row_ok slot_read slot_ok agreeing slots_ok ids_once rows_agreeing every of_bits neg le
+unfolding check_of recent_tests whole_rows row_count recent_count recent_of row_ok slot_read slot_ok agreeing slots_ok ids_once rows_agreeing every of_bits neg le
 older = (refl, refl)
 
 -- where a slot is by its id: an absent slot has none, and words that are no row of at most 20 slots have none

@@ -15,10 +15,10 @@ use Rattle.arith.proofs.Passing.{all_every, all_front}
 use Rattle.arith.proofs.Chunks.{chunk_at, chunk_count}
 use Rattle.history_rows.specs.Chunks.{slots_in}
 use Rattle.history_rows.specs.Rows.{width_of, row_count, row_at, slot_at}
-use native.Mathlib.Nat.{mul-div_cancel, div-mul-le_self, add-sub_cancel_left, zero-mul, sub-zero}
+use native.Mathlib.Nat.{mul-div_cancel, div-mul-le_self, add-sub_cancel_left}
 use native.Mathlib.Omega.{arith}
 use lib.ListN.{length, get_or, take, drop, length-drop}
-use lib.Seq.{drop-drop, length-take-le, get_or-take, get_or-drop}
+use lib.Seq.{drop-drop, length-take-le}
 
 -- w words from the place at
 pub part : (w : ℕ) (r : List ℕ) (at : ℕ) → take (at + w - at) (drop at r) ≡ take w (drop at r)
@@ -29,14 +29,6 @@ part_length w r at h = length-take-le w (drop at r) (rw (length-drop at r) (omeg
 
 pub lent_length : (w : ℕ) (r : List ℕ) (at : ℕ) → at + w ≤ length r → length (take (at + w - at) (drop at r)) ≡ w
 lent_length w r at h = rw (part w r at) (part_length w r at h)
-
--- the first row, as the code lends it
-pub first_part : (w : ℕ) (r : List ℕ) → take (w - 0) r ≡ take w (drop (0 * w) r)
-first_part w r = rw (zero-mul w, sub-zero w)
-
--- word k of a part
-pub part_at : (w : ℕ) (r : List ℕ) (at k : ℕ) → k < w → get_or (take w (drop at r)) k 0 ≡ get_or r (at + k) 0
-part_at w r at k h = get_or-take w (drop at r) k 0 h ∙ get_or-drop at r k 0
 
 -- ---- a row's slots and a history's rows, as chunks
 

@@ -1,5 +1,7 @@
 -- The tests 3 to 7, each over all recent rows before the next. r stands for the words of the recent rows. Definitions only.
-use Rattle.std.specs.Prelude.{ℕ, Bool, cond, not, ◌&&◌, List, [], ◌∷◌, leb, pos}
+use Rattle.refusal.specs.declared.Refusal.{Refusal}
+use Rattle.refusal.specs.declared.Refusal.TheVariants.{BrokenRows, Objective, Slot, RepeatedId, UnequalId, OutOfDomain}
+use Rattle.std.specs.Prelude.{ℕ, Bool, cond, not, ◌&&◌, List, [], ◌∷◌, leb, pos, Result, Ok, Err}
 use Rattle.std.specs.Float.{binary64}
 use Rattle.std.specs.Float.Ieee.{of_bits}
 use Rattle.arith.specs.Lists.{every}
@@ -27,22 +29,22 @@ rows_agreeing n row other = every n (λ a. every n (λ b. agreeing (slot_at row 
 
 -- ---- over all recent rows
 
--- the number of the first test that fails, or 0
-abbrev pub first_of : List (ℕ × Bool) → ℕ
-first_of [] = 0
-first_of (t ∷ ts) = cond t.1 (first_of ts) t.0
+-- the cause of the first test that fails
+abbrev pub first_of : List (Refusal × Bool) → Result Unit Refusal
+first_of [] = Ok tt
+first_of (t ∷ ts) = cond t.1 (first_of ts) (Err t.0)
 
 -- "recent state or objective bad" 4, "recent slot bad" 5, "an id twice in a recent row" 6, "an id with two unequal distributions in recent rows" 7
-unfoldable pub recent_tests : ℕ → ℕ → List ℕ → List (ℕ × Bool)
+unfoldable pub recent_tests : ℕ → ℕ → List ℕ → List (Refusal × Bool)
 unfolding row_ok slots_ok ids_once rows_agreeing
 recent_tests n m r =
-    (4, every m (λ i. row_ok (row_at n r i)))
-    ∷ (5, every m (λ i. slots_ok n (row_at n r i)))
-    ∷ (6, every m (λ i. ids_once n (row_at n r i)))
-    ∷ (7, every m (λ i. every m (λ j. rows_agreeing n (row_at n r i) (row_at n r j))))
+    (Objective, every m (λ i. row_ok (row_at n r i)))
+    ∷ (Slot, every m (λ i. slots_ok n (row_at n r i)))
+    ∷ (RepeatedId, every m (λ i. ids_once n (row_at n r i)))
+    ∷ (UnequalId, every m (λ i. every m (λ j. rows_agreeing n (row_at n r i) (row_at n r j))))
     ∷ []
 
--- the number of a history: 11 for slots outside 1 to 20, 3 for words that are no whole rows, then the tests of the recent rows
-unfoldable pub refusal_of : ℕ → List ℕ → ℕ
+-- what a history is refused for: slots outside 1 to 20 (11), words that are no whole rows (3), then the tests of the recent rows
+unfoldable pub check_of : ℕ → List ℕ → Result Unit Refusal
 unfolding whole_rows row_count recent_of recent_tests
-refusal_of n h = first_of ((11, leb 1 n && leb n 20) ∷ (3, whole_rows n h) ∷ recent_tests n (row_count n (recent_of n h)) (recent_of n h))
+check_of n h = first_of ((OutOfDomain, leb 1 n && leb n 20) ∷ (BrokenRows, whole_rows n h) ∷ recent_tests n (row_count n (recent_of n h)) (recent_of n h))

@@ -5,7 +5,7 @@ pub mod rows;
 pub mod tests;
 
 pub use rows::slot_place;
-pub use tests::{recent_part, refusal};
+pub use tests::{check, recent_part};
 
 // Where the recent rows of a history start, and how many there are.
 #[derive(Clone, Copy)]

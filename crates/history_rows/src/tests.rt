@@ -8,10 +8,11 @@ ghost use Rattle.history_rows.specs.Chunks.{slots_in};
 ghost use Rattle.history_rows.specs.First.{like_first};
 ghost use Rattle.history_rows.specs.Recent.{recent_part};
 ghost use Rattle.history_rows.specs.Rows.{width_of, row_count, older_of, recent_of};
-ghost use Rattle.history_rows.specs.Tests.{first_of, recent_tests, refusal_of};
+ghost use Rattle.history_rows.specs.Tests.{first_of, recent_tests, check_of};
 ghost use Rattle.slots.specs.Slot.{has_id};
 
 use crate::{RecentRows, rows};
+use refusal::Refusal;
 use std::slice::ChunksExact;
 
 // The words of whole rows, each of that many slots.
@@ -68,25 +69,25 @@ impl Recent<'_> {
         rows::each_slot(row).all(|slot| self.like_first(slot))
     }
 
-    // The number of the first test that fails: 4 states and objectives, 5 slots, 6 ids, 7 the distributions of ids; or 0.
-    fn refusal(&self) -> u64
+    // The first test that fails: states and objectives, slots, ids, the distributions of ids.
+    fn check(&self) -> Result<(), Refusal>
         ensures { let n = self.now.slots in
             let r = self.now.words.now in
             result ≡ first_of (recent_tests n (row_count n r) r) }
     {
         if !self.rows().all(|row| rows::row_ok(row)) {
-            return 4;
+            return Err(Refusal::Objective);
         }
         if !self.rows().all(|row| rows::slots_ok(row)) {
-            return 5;
+            return Err(Refusal::Slot);
         }
         if !self.rows().all(|row| rows::ids_once(row)) {
-            return 6;
+            return Err(Refusal::RepeatedId);
         }
         if !self.rows().all(|row| self.row_like_first(row)) {
-            return 7;
+            return Err(Refusal::UnequalId);
         }
-        0
+        Ok(())
     }
 }
 
@@ -121,20 +122,20 @@ pub fn recent_part(n: usize, h: &[u64]) -> RecentRows
     RecentRows { start, rows }
 }
 
-// The number of a history of that many slots: 11, 3, or that of the first test of its recent rows that fails, or 0.
-pub fn refusal(slots: usize, h: &[u64]) -> u64
-    ensures { result ≡ refusal_of slots h.now }
+// A history of that many slots, 1 to 20: whole rows, and then the tests of its recent rows.
+pub fn check(slots: usize, h: &[u64]) -> Result<(), Refusal>
+    ensures { result ≡ check_of slots h.now }
 {
     if slots < 1 || slots > 20 {
-        return 11;
+        return Err(Refusal::OutOfDomain);
     }
     if h.len() % (3 + 8 * slots) != 0 {
-        return 3;
+        return Err(Refusal::BrokenRows);
     }
     let start = older(slots, h);
     let recent = Recent {
         slots,
         words: &h[start..],
     };
-    recent.refusal()
+    recent.check()
 }

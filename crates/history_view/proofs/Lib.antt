@@ -2,4 +2,4 @@ mod Cases
 pub mod Order
 pub mod Usable
 pub mod Values
-mod Views
+pub mod Views

@@ -1,25 +1,29 @@
--- Histories that agree have the same number, mapping, training data and view, and older words are not read. Assumes nothing.
+-- Histories that agree have the same answer of the tests, mapping, training data and view, and older words are not read. Assumes nothing.
+use Rattle.refusal.specs.declared.Refusal.{Refusal}
+use Rattle.refusal.specs.declared.Refusal.TheVariants.{OutOfDomain, BrokenRows}
+use Rattle.std.specs.Prelude.{Option, None, Result, Ok, Err}
+use Rattle.std.specs.Result.{result_and}
+use Rattle.history.specs.declared.Training.{Training}
+use Rattle.history.proofs.FromArray.{training-accepted}
 use mathlib.Core.Path.{◌≡◌, refl, sym, ap, ◌∙◌}
-use mathlib.Core.Bool.{Bool, true, false, ◌&&◌, cond}
-use mathlib.Core.List.{List, [], ◌∷◌}
+use mathlib.Core.Bool.{◌&&◌, cond}
+use mathlib.Core.List.{List, ◌∷◌}
 use mathlib.Core.Logic.{inl, inr}
 use Prim.Native.Nat.{ℕ, ◌*◌, ◌/◌, ◌%◌, ◌<◌}
 use native.Mathlib.Nat.{eq-zero-or-pos}
-use lib.Dec.{T, T_not, eqb, leb}
+use lib.Dec.{T, T_not, leb}
 use lib.ListN.{length, get_or}
 use lib.Ieee.{binary64, of_bits}
 use lib.Ieee.Bits.{is_true, is_false}
-use borrow.Author.Tests.{eqb-true}
 use Rattle.arith.specs.Lists.{every, filled, places_of}
 use Rattle.arith.proofs.Lists.{every-same, every-each, list_same, places_same}
 use Rattle.dimensions.specs.declared.DimensionInfo.{DimensionInfo}
-use Rattle.param_mapping.specs.declared.Mapped.{Mapped}
 use Rattle.dimensions.specs.Dimensions.{dimensions_ok, columns_of}
 use Rattle.history_rows.specs.Rows.{whole_rows, row_count, recent_of, row_at}
-use Rattle.history_rows.specs.Tests.{first_of, row_ok, slots_ok, ids_once, rows_agreeing, recent_tests, refusal_of}
-use Rattle.param_mapping.specs.Mapping.{none, mapped_of, number_of, mapping_of}
-use Rattle.history.specs.Training.{trains_of, column_of, kept_of, x_of, y_of, built_of, recent_training, refused_of, training_of}
-use Rattle.history_view.specs.View.{reaches_of, view_of}
+use Rattle.history_rows.specs.Tests.{first_of, row_ok, slots_ok, ids_once, rows_agreeing, recent_tests, check_of}
+use Rattle.param_mapping.specs.Mapping.{mapped_of, asked_of, mapping_of}
+use Rattle.history.specs.Training.{trains_of, column_of, kept_of, x_of, y_of, built_of, recent_training, training_of}
+use Rattle.history_view.specs.View.{reaches_of, viewed, view_of}
 use Rattle.history.specs.RowsAgree.{RowsAgree}
 use Rattle.history_view.specs.Agree.{WholeAgree, Agree, OrderFree, OlderUnread}
 use Rattle.history.proofs.KeptRows.{cell, kept_row, kept-covers}
@@ -28,7 +32,7 @@ use Rattle.history_rows.proofs.Passed.{Passed}
 use Rattle.history_rows.proofs.Recent.{recent-none}
 use Rattle.history.proofs.SameRow.{row_same, slots_same, ids-same, trains-same, mapped-same, column-same, agreeing-same}
 
--- ---- the number
+-- ---- the tests
 
 recent-same : (n m : ℕ) (r s : List ℕ) → ((i : ℕ) → i < m → RowsAgree n (row_at n r i) (row_at n s i)) → recent_tests n m r ≡ recent_tests n m s
 unfolding recent_tests
@@ -41,12 +45,12 @@ recent-same n m r s rows =
           (λ i l. every-same m _ _ (λ j k. agreeing-same n (row_at n r i) (row_at n s i) (row_at n r j) (row_at n s j) (rows i l) (rows j k))),
     )
 
--- the definition of the number, with the tests left as they are
-refusal_is : (n : ℕ) (h : List ℕ) → refusal_of n h ≡ first_of ((11, leb 1 n && leb n 20) ∷ (3, whole_rows n h) ∷ recent_tests n (row_count n (recent_of n h)) (recent_of n h))
-unfolding refusal_of
+-- the definition of the tests' answer, with the tests left as they are
+refusal_is : (n : ℕ) (h : List ℕ) → check_of n h ≡ first_of ((OutOfDomain, leb 1 n && leb n 20) ∷ (BrokenRows, whole_rows n h) ∷ recent_tests n (row_count n (recent_of n h)) (recent_of n h))
+unfolding check_of
 refusal_is n h = refl
 
-refusal-same : (n startup : ℕ) (g h : List ℕ) → Agree n startup g h → refusal_of n g ≡ refusal_of n h
+refusal-same : (n startup : ℕ) (g h : List ℕ) → Agree n startup g h → check_of n g ≡ check_of n h
 refusal-same n startup g h (inl q) = rw (refusal_is n g, refusal_is n h, is_false (whole_rows n g) q.0, is_false (whole_rows n h) q.1)
 refusal-same n startup g h (inr w) =
     rw (
@@ -58,37 +62,35 @@ refusal-same n startup g h (inr w) =
       w.many,
     )
 
--- ---- what follows where the number is the same
+-- ---- what follows where their answer is the same
 
--- an answer that is refused by a number
-by_number : {X : Type 0} (a b : ℕ) (x y : X) (refused : ℕ → X) → a ≡ b → (a ≡ 0 → x ≡ y) → cond (eqb a 0) x (refused a) ≡ cond (eqb b 0) y (refused b)
-by_number a b x y refused e f = rw (← e) (go (eqb a 0) refl)
+-- an answer after a first one
+by_answer : {X : Type 0} (a b : Result Unit Refusal) (x y : X) → a ≡ b → (a ≡ Ok tt → x ≡ y) → result_and a (Ok x) ≡ result_and b (Ok y)
+by_answer a b x y e f = rw (← e) (go a f)
   where
-    go : (p : Bool) → eqb a 0 ≡ p → cond p x (refused a) ≡ cond p y (refused a)
-    go true q = f (eqb-true a 0 q)
-    go false q = refl
+    go : (a : Result Unit Refusal) → (a ≡ Ok tt → x ≡ y) → result_and a (Ok x) ≡ result_and a (Ok y)
+    go (Ok u) f = ap Ok (f refl)
+    go (Err r) f = refl
 
-module _ (n : ℕ) (dims : List DimensionInfo) (k : ℕ) (g h : List ℕ) (refusal : refusal_of n g ≡ refusal_of n h) where
-  number_by : number_of n dims k g ≡ number_of n dims k h
-  unfolding number_of
-  number_by = ap (λ m. cond (dimensions_ok dims k) m 11) refusal
+module _ (n : ℕ) (dims : List DimensionInfo) (k : ℕ) (g h : List ℕ) (refusal : check_of n g ≡ check_of n h) where
+  asked-by : asked_of n dims k g ≡ asked_of n dims k h
+  unfolding asked_of
+  asked-by = ap (λ m. cond (dimensions_ok dims k) m (Err OutOfDomain)) refusal
 
   mapping-by : (Passed n g → mapped_of n dims k (row_at n (recent_of n g) 0) ≡ mapped_of n dims k (row_at n (recent_of n h) 0)) → mapping_of n dims k g ≡ mapping_of n dims k h
   unfolding mapping_of
-  mapping-by f =
-      by_number (number_of n dims k g) (number_of n dims k h) _ _ (λ number. record { number = number; ids = filled none 20 [] }) number_by
-      (λ e. ap (λ m. record { number = 0; ids = filled none 20 m }) (f (accepted n dims k g e).1))
+  mapping-by f = by_answer (asked_of n dims k g) (asked_of n dims k h) _ _ asked-by (λ e. ap (λ m. filled None 20 m) (f (accepted n dims k g e).1))
 
   training-by : (Passed n g → recent_training n dims k (recent_of n g) ≡ recent_training n dims k (recent_of n h)) → training_of n dims k g ≡ training_of n dims k h
   unfolding training_of
-  training-by f = by_number (number_of n dims k g) (number_of n dims k h) _ _ refused_of number_by (λ e. f (accepted n dims k g e).1)
+  training-by f = by_answer (asked_of n dims k g) (asked_of n dims k h) _ _ asked-by (λ e. f (accepted n dims k g e).1)
 
 -- ---- the training data of recent rows that agree
 
 module _
     (n : ℕ) (r s : List ℕ) (many : row_count n r ≡ row_count n s)
     (rows : (i : ℕ) → i < row_count n r → RowsAgree n (row_at n r i) (row_at n s i)) (ids : (i : ℕ) → i < row_count n r → T (ids_once n (row_at n r i))) where
-  module _ (mapping : List Mapped) (columns : List ℕ) where
+  module _ (mapping : List (Option ℕ)) (columns : List ℕ) where
     kept_same : kept_of n mapping columns r ≡ kept_of n mapping columns s
     unfolding kept_of
     kept_same =
@@ -151,16 +153,13 @@ module _ (n startup : ℕ) (g h : List ℕ) (agree : Agree n startup g h) where
         training-by n dims k g h (refusal-same n startup g h agree)
         (λ p. recent-training n (recent_of n g) (recent_of n h) (both-whole p).many (both-whole p).rows (ids p) dims k (first-same p dims k))
 
-    reached-same : (eqb (number_of n dims k g) 0 && reaches_of n startup g) ≡ (eqb (number_of n dims k h) 0 && reaches_of n startup h)
-    reached-same = rw (← (number_by n dims k g h (refusal-same n startup g h agree))) (go (eqb (number_of n dims k g) 0) refl)
-      where
-        go : (b : Bool) → eqb (number_of n dims k g) 0 ≡ b → (b && reaches_of n startup g) ≡ (b && reaches_of n startup h)
-        go true e = (both-whole (accepted n dims k g (eqb-true (number_of n dims k g) 0 e)).1).reach
-        go false e = refl
-
     view-same : view_of n startup dims k g ≡ view_of n startup dims k h
     unfolding view_of
-    view-same = λ i. record { reached = reached-same i; training = training-same i }
+    view-same = go (training_of n dims k g) refl ∙ ap (viewed (reaches_of n startup h)) training-same
+      where
+        go : (r : Result Training Refusal) → training_of n dims k g ≡ r → viewed (reaches_of n startup g) r ≡ viewed (reaches_of n startup h) r
+        go (Ok t) e = rw ((both-whole (accepted n dims k g (training-accepted n dims k g t e).0).1).reach)
+        go (Err r) e = refl
 
 pub order-free : OrderFree
 order-free =
@@ -181,5 +180,5 @@ older-unread =
       training = λ n dims k g h w r. training-by n dims k g h (refusal n g h w r) (λ _. rw r);
     }
   where
-    refusal : (n : ℕ) (g h : List ℕ) → whole_rows n g ≡ whole_rows n h → recent_of n g ≡ recent_of n h → refusal_of n g ≡ refusal_of n h
+    refusal : (n : ℕ) (g h : List ℕ) → whole_rows n g ≡ whole_rows n h → recent_of n g ≡ recent_of n h → check_of n g ≡ check_of n h
     refusal n g h w r = rw (refusal_is n g, refusal_is n h, w, r)

@@ -4,15 +4,14 @@ use mathlib.Core.Path.{◌≡◌, refl, sym, ◌∙◌, subst}
 use Prim.Native.Nat.{ℕ, ◌*◌, ◌/◌, ◌%◌, ◌≤◌, ◌<◌}
 use native.Mathlib.Nat.{le_trans, div-lt_iff_lt-mul, mod-lt}
 use native.Mathlib.Omega.{arith}
-use mathlib.Core.Bool.{Bool, true, false, cond}
+use mathlib.Core.Bool.{true}
 use mathlib.Core.List.{List}
-use lib.Dec.{T, le→leb, ltb, ltb→lt, eqb, eqb→eq}
+use lib.Dec.{T, le→leb, ltb→lt, eqb, eqb→eq}
 use lib.IntN.{pos}
 use lib.ListN.{length, get_or, take}
 use lib.Ieee.{Float, nan, binary64, le, of_bits}
 use lib.Ieee.Bits.{is_true}
-use lib.Ieee.Fits.{and_i, and_l, and_r, eq→eqb}
-use borrow.Author.Tests.{eqb-true, eqb-false}
+use lib.Ieee.Fits.{and_i, eq→eqb}
 use Rattle.history_rows.proofs.First.{equal_of}
 use Rattle.arith.specs.Bounds.{abs, Within}
 use Rattle.arith.specs.Lists.{every, list_of}
@@ -27,20 +26,20 @@ use Rattle.common.proofs.Facts.{largest}
 use Rattle.gp_model.specs.Fit.{fit_domain}
 use Rattle.gp_model.specs.Statistics.{all_within}
 use Rattle.dimensions.specs.declared.DimensionInfo.{DimensionInfo}
-use Rattle.param_mapping.specs.declared.Mapped.{Mapped}
 use Rattle.history.specs.declared.Training.{Training}
 use Rattle.dimensions.specs.Dimensions.{dimension_at, columns_of}
-use Rattle.param_mapping.specs.Mapping.{none, mapped_of, number_of}
+use Rattle.param_mapping.specs.Mapping.{mapped_of}
 use Rattle.history_rows.specs.Rows.{row_count, recent_of, row_at, objective_of, slot_at}
 use Rattle.slots.specs.Slot.{id_of, taken_word, present, slot_read, taken_read, slot_ok, reads_equal, agreeing, has_id}
 use Rattle.history_rows.specs.Tests.{row_ok, slots_ok, rows_agreeing}
 use Rattle.history_rows.specs.Slots.{slot_with}
-use Rattle.history.specs.Training.{covers_of, trains_of, column_of, kept_of, x_of, y_of, recent_training, refused_of, training_of}
+use Rattle.history.specs.Training.{mapped_place, covers_of, trains_of, column_of, kept_of, x_of, y_of, recent_training}
 use Rattle.history_view.specs.Usable.{Usable}
 use Rattle.dimensions.proofs.Ok.{dimensions-ok}
 use Rattle.param_mapping.proofs.Consumed.{consumed}
 use Rattle.param_mapping.proofs.Opened as passing
 use Rattle.history_rows.proofs.Passed.{Passed}
+use Rattle.history.proofs.FromArray.{training-accepted}
 use Rattle.history.proofs.PlaceList.{columns-few}
 use Rattle.history_rows.proofs.Recent.{recent-few}
 use Rattle.history_view.proofs.Values.{Column, entry-within}
@@ -71,20 +70,22 @@ reads-trans None b c p q = absurd p
 agreed : (u v : List ℕ) → T (agreeing u v) → T (present u) → T (present v) → id_of u ≡ id_of v → T (reads_equal (slot_read u) (slot_read v))
 agreed u v t p q e = let i : T (eqb (id_of u) (id_of v)) = eq→eqb e in equal_of u v t (search and_i)
 
--- a row that covers a mapping has a slot of its id
-record Covered (n : ℕ) (row : List ℕ) (m : Mapped) : Type 0 where
-  found : T m.found
-  below : slot_with n row m.id < n
-  present : T (present (slot_at row (slot_with n row m.id)))
-  under : id_of (slot_at row (slot_with n row m.id)) ≡ m.id
+-- a row that covers a dimension has a slot of its id
+record Covered (n : ℕ) (row : List ℕ) (m : Option ℕ) : Type 0 where
+  id : ℕ
+  is : m ≡ Some id
+  below : mapped_place n row m < n
+  present : T (present (slot_at row (mapped_place n row m)))
+  under : id_of (slot_at row (mapped_place n row m)) ≡ id
 
-covered : (n : ℕ) (row : List ℕ) (m : Mapped) → T (covers_of n row m) → Covered n row m
+covered : (n : ℕ) (row : List ℕ) (m : Option ℕ) → T (covers_of n row m) → Covered n row m
 unfolding covers_of slot_with
-covered n row m t =
-    let s = slot_with n row m.id in
-    let l = ltb→lt s n (and_r m.found (ltb s n) t) in
-    let h = place_found n (λ s. has_id m.id (slot_at row s)) l in
-    record { found = and_l m.found (ltb s n) t; below = l; present = search parts; under = eqb→eq (id_of (slot_at row s)) m.id (search parts) }
+covered n row (Some id) t =
+    let s = slot_with n row id in
+    let l = ltb→lt s n t in
+    let h = place_found n (λ s. has_id id (slot_at row s)) l in
+    record { id = id; is = refl; below = l; present = search parts; under = eqb→eq (id_of (slot_at row s)) id (search parts) }
+covered n row None t = let l = ltb→lt n n t in absurd (omega arith)
 
 -- ---- the fit's domain
 
@@ -112,7 +113,7 @@ module _ (n : ℕ) (dims : List DimensionInfo) (k : ℕ) (h : List ℕ) where
   abbrev row : ℕ → List ℕ
   row i = row_at n (recent_of n h) i
 
-  abbrev mapping : List Mapped
+  abbrev mapping : List (Option ℕ)
   mapping = mapped_of n dims k (row 0)
 
   abbrev columns : List ℕ
@@ -161,9 +162,9 @@ module _ (n : ℕ) (dims : List DimensionInfo) (k : ℕ) (h : List ℕ) where
       column-within i l t c m =
           let j = get_or columns c 0 in
           let q = columns-at c m in
-          let o = covered n (row i) (get_or mapping j none) (every-each (length columns) (λ c. covers_of n (row i) (get_or mapping (get_or columns c 0) none)) t c m) in
-          let a = consumed n dims k (row 0) j q.0 o.found in
-          let s = slot_with n (row i) (get_or mapping j none).id in
+          let o = covered n (row i) (get_or mapping j None) (every-each (length columns) (λ c. covers_of n (row i) (get_or mapping (get_or columns c 0) None)) t c m) in
+          let a = consumed n dims k (row 0) j q.0 o.id o.is in
+          let s = mapped_place n (row i) (get_or mapping j None) in
           let u = slot_at (row 0) a.place in
           let v = slot_at (row i) s in
           let g = agreed u v (slots-agree 0 i a.place s (omega arith) l a.below o.below) a.present o.present (a.under ∙ sym o.under) in
@@ -188,20 +189,10 @@ module _ (n : ℕ) (dims : List DimensionInfo) (k : ℕ) (h : List ℕ) where
 
 -- ---- training data that are accepted
 
--- they are those of the recent rows, and no test failed
-accepted : (n : ℕ) (dims : List DimensionInfo) (k : ℕ) (h : List ℕ) → (training_of n dims k h).number ≡ 0 → (number_of n dims k h ≡ 0) × (training_of n dims k h ≡ recent_training n dims k (recent_of n h))
-unfolding training_of
-accepted n dims k h = go (eqb (number_of n dims k h) 0) refl
-  where
-    go : (b : Bool) → eqb (number_of n dims k h) 0 ≡ b → let t : Training = cond b (recent_training n dims k (recent_of n h)) (refused_of (number_of n dims k h)) in
-        t.number ≡ 0 → (number_of n dims k h ≡ 0) × (t ≡ recent_training n dims k (recent_of n h))
-    go true q e = (eqb-true (number_of n dims k h) 0 q, refl)
-    go false q e = absurd (eqb-false (number_of n dims k h) 0 q e)
-
 pub usable : Usable
 usable = record {
-  fits = λ n dims k h held fit e least.
-      let a = accepted n dims k h e in
+  fits = λ n dims k h held fit t e least.
+      let a = training-accepted n dims k h t e in
       let b = passing.accepted n dims k h a.0 in
       let o = dimensions-ok dims k b.0 in
       subst (λ (t : Training). 1 ≤ t.d → fit_domain (take (t.n * t.d) t.x) (take t.n t.y) t.d ≡ true) (sym a.1)

@@ -6,23 +6,24 @@ ghost use Rattle.history_view.specs.View.{view_of};
 
 use crate::View;
 use dimensions::DimensionInfo;
+use refusal::Refusal;
 
-// The view of a history: a refusal's number, or whether all its rows reach the start-up count, and its training data.
-pub fn view_of(slots: usize, startup: u64, dims: [DimensionInfo; 20], k: usize, h: &[u64]) -> View
+// The view of a history: whether all its rows reach the start-up count, and its training data.
+pub fn view_of(
+    slots: usize,
+    startup: u64,
+    dims: [DimensionInfo; 20],
+    k: usize,
+    h: &[u64],
+) -> Result<View, Refusal>
     ensures { result ≡ view_of slots startup dims k h.now }
 {
-    let training = history::build_training_data(slots, dims, k, h);
-    if training.number != 0 {
-        return View {
-            reached: false,
-            training,
-        };
-    }
+    let training = history::build_training_data(slots, dims, k, h)?;
     let rows = h.len() / (3 + 8 * slots);
-    View {
+    Ok(View {
         reached: startup <= rows as u64,
         training,
-    }
+    })
 }
 
 // Two histories that agree are not told apart.

@@ -1,4 +1,4 @@
-// Eight square roots side by side.
+// Eight scaled roots side by side.
 ghost use Rattle.std.specs.Prelude.{◌≡◌, ℕ, get_or};
 ghost use Rattle.std.specs.Float.{nan};
 ghost use Rattle.kernel.specs.Matern.{scaled_root_of};

@@ -1,4 +1,4 @@
-// The leaves of `arith`: one float each.
+// The leaves of `exponential`, `logarithm`, `root` and `arith`: one float each.
 use crate::reply::{Reply, Results, floats, outcome, put_float};
 
 pub(crate) fn exp(args: &[u64], results: &mut Results) -> Reply {

@@ -5,11 +5,10 @@ ghost use Rattle.std.specs.Prelude.{◌≤◌, length};
 
 use crate::codings;
 use crate::model::put_floats;
-use crate::reply::{Failure, Reply, Results, Written, accepted, put};
+use crate::reply::{Failure, Reply, Results, Written, outcome, put};
 use dimensions::DimensionInfo;
 use distribution::{CategoricalDistribution, Distribution};
 use history::Training;
-use param_mapping::Mapped;
 
 // What `mapping` and `training` read: the number of slots, k dimensions and a history.
 #[derive(Clone, Copy)]
@@ -27,7 +26,7 @@ pub(crate) fn history(args: &[u64], results: &mut Results) -> Reply {
         return Err(Failure::Unreadable);
     };
     let slots = *slots as usize;
-    accepted(history_rows::refusal(slots, h))?;
+    outcome(history_rows::check(slots, h))?;
     if slots > 20 {
         return Err(Failure::Unreadable);
     }
@@ -69,20 +68,19 @@ fn read_query(args: &[u64]) -> Result<Query<'_>, Failure> {
 }
 
 // Puts two words for each: 1 and the id, or 0 and 0 for none.
-fn put_ids(ids: &[Mapped], results: &mut Results)
+fn put_ids(ids: &[Option<u64>], results: &mut Results)
     requires { length ids.now ≤ 20 }
 {
-    for (j, m) in ids.iter().enumerate() {
-        results[2 * j] = m.found as u64;
-        results[2 * j + 1] = m.id;
+    for (j, id) in ids.iter().enumerate() {
+        results[2 * j] = id.is_some() as u64;
+        results[2 * j + 1] = id.unwrap_or(0);
     }
 }
 
 pub(crate) fn mapping(args: &[u64], results: &mut Results) -> Reply {
     let q = read_query(args)?;
-    let m = param_mapping::establish_param_mapping(q.slots, q.dims, q.k, q.history);
-    accepted(m.number)?;
-    put_ids(&m.ids[..q.k], results);
+    let ids = outcome(param_mapping::establish_param_mapping(q.slots, q.dims, q.k, q.history))?;
+    put_ids(&ids[..q.k], results);
     Ok(Written { words: 2 * q.k })
 }
 
@@ -96,7 +94,6 @@ fn coordinates(n: usize, d: usize) -> usize
 
 // The counts, the coordinates row after row and the values. There are at most 100 rows of 20 columns.
 fn put_training(t: Training, results: &mut Results) -> Reply {
-    accepted(t.number)?;
     let (n, d) = (t.n, t.d);
     if n > 100 || d > 20 {
         return Err(Failure::Unreadable);
@@ -113,8 +110,6 @@ fn put_training(t: Training, results: &mut Results) -> Reply {
 
 pub(crate) fn training(args: &[u64], results: &mut Results) -> Reply {
     let q = read_query(args)?;
-    put_training(
-        history::build_training_data(q.slots, q.dims, q.k, q.history),
-        results,
-    )
+    let t = outcome(history::build_training_data(q.slots, q.dims, q.k, q.history))?;
+    put_training(t, results)
 }

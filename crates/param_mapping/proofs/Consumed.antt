@@ -1,6 +1,6 @@
 -- The id that a dimension is mapped to is one of the row's: a slot that is present has it, with an equal distribution. Assumes nothing.
-use Rattle.std.specs.Prelude.{Some}
-use mathlib.Core.Path.{◌≡◌, refl}
+use Rattle.std.specs.Prelude.{Option, Some, None}
+use mathlib.Core.Path.{◌≡◌, refl, sym, ◌∙◌, subst}
 use Prim.Native.Nat.{ℕ, zero, suc, ◌<◌}
 use native.Mathlib.Omega.{arith}
 use mathlib.Core.Bool.{Bool, true, false, not, cond}
@@ -13,9 +13,8 @@ use Rattle.arith.proofs.Lists.{grown-read}
 use Rattle.arith.proofs.Tests.{taken}
 use Rattle.distribution.specs.declared.Distribution.{Distribution}
 use Rattle.dimensions.specs.declared.DimensionInfo.{DimensionInfo}
-use Rattle.param_mapping.specs.declared.Mapped.{Mapped}
 use Rattle.dimensions.specs.Dimensions.{dimension_at}
-use Rattle.param_mapping.specs.Mapping.{insert_by_id, entries_of, none, first_entry, consumed_of, matches_of, mapped_of}
+use Rattle.param_mapping.specs.Mapping.{insert_by_id, entries_of, first_entry, consumed_of, matches_of, mapped_of}
 use Rattle.history_rows.specs.Rows.{slot_at}
 use Rattle.slots.specs.Slot.{id_of, present, slot_read, reads_equal}
 
@@ -45,13 +44,13 @@ entries-each P row (suc n) f = go (present (slot_at row n)) refl (entries-each P
     go false e r = r
 
 -- what follows of the id of each entry that passes the test, of the one found
-found-id : (Q : ℕ → Type 0) (t : List ℕ → Bool) (vs : List (List ℕ)) → Each (λ v. T (t v) → Q (id_of v)) vs → T (first_entry t vs).found → Q (first_entry t vs).id
+found-id : (Q : ℕ → Type 0) (t : List ℕ → Bool) (vs : List (List ℕ)) → Each (λ v. T (t v) → Q (id_of v)) vs → (id : ℕ) → first_entry t vs ≡ Some id → Q id
 unfolding first_entry
-found-id Q t [] q f = absurd f
-found-id Q t (v ∷ vs) q f = go (t v) refl (found-id Q t vs q.1) f
+found-id Q t [] q id f = cc
+found-id Q t (v ∷ vs) q id f = go (t v) refl (found-id Q t vs q.1 id) f
   where
-    go : (b : Bool) → t v ≡ b → (T (first_entry t vs).found → Q (first_entry t vs).id) → let m : Mapped = cond b (record { found = true; id = id_of v }) (first_entry t vs) in T m.found → Q m.id
-    go true e r f = q.0 (taken e)
+    go : (b : Bool) → t v ≡ b → (first_entry t vs ≡ Some id → Q id) → cond b (Some (id_of v)) (first_entry t vs) ≡ Some id → Q id
+    go true e r f = let i : id_of v ≡ id = cc in subst Q i (q.0 (taken e))
     go false e r f = r f
 
 -- ---- a dimension's id
@@ -63,13 +62,13 @@ pub record Consumed (n : ℕ) (row : List ℕ) (d : Distribution) (id : ℕ) : T
   pub under : id_of (slot_at row place) ≡ id
   pub equal : T (reads_equal (Some d) (slot_read (slot_at row place)))
 
-pub consumed : (n : ℕ) (dims : List DimensionInfo) (k : ℕ) (row : List ℕ) (j : ℕ) → j < k → T (get_or (mapped_of n dims k row) j none).found
-    → Consumed n row (dimension_at dims j).distribution (get_or (mapped_of n dims k row) j none).id
+pub consumed : (n : ℕ) (dims : List DimensionInfo) (k : ℕ) (row : List ℕ) (j : ℕ) → j < k → (id : ℕ) → get_or (mapped_of n dims k row) j None ≡ Some id
+    → Consumed n row (dimension_at dims j).distribution id
 unfolding mapped_of matches_of
-consumed n dims k row j l =
+consumed n dims k row j l id is =
     let d = (dimension_at dims j).distribution in
-    let f : List Mapped → ℕ → Mapped = λ before i. first_entry (matches_of before i (dimension_at dims i).distribution) (entries_of row n) in
-    rw (grown-read f k j none l)
+    let f : List (Option ℕ) → ℕ → Option ℕ = λ before i. first_entry (matches_of before i (dimension_at dims i).distribution) (entries_of row n) in
     (found-id (Consumed n row d) (matches_of (grown f j) j d) (entries_of row n)
     (entries-each (λ v. T (matches_of (grown f j) j d v) → Consumed n row d (id_of v)) row n
-    (λ s b p t. record { place = s; below = b; present = p; under = refl; equal = and_l (reads_equal (Some d) (slot_read (slot_at row s))) (not (consumed_of (grown f j) j (id_of (slot_at row s)))) t })))
+    (λ s b p t. record { place = s; below = b; present = p; under = refl; equal = and_l (reads_equal (Some d) (slot_read (slot_at row s))) (not (consumed_of (grown f j) j (id_of (slot_at row s)))) t }))
+    id (sym (grown-read f k j None l) ∙ is))

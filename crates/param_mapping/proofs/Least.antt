@@ -1,17 +1,16 @@
 -- The first entry by id for which a test holds is the one of least id: what a scan through the slots finds. Assumes nothing.
 use Prim.Native.Nat.{ℕ, zero, suc, ◌≤◌}
 use mathlib.Core.Path.{◌≡◌, refl}
-use mathlib.Core.Bool.{Bool, true, false, not, ◌&&◌, ◌||◌, cond, and-false}
+use mathlib.Core.Bool.{Bool, true, false, ◌&&◌, cond, and-false}
 use mathlib.Core.List.{List, [], ◌∷◌}
 use native.Mathlib.Nat.{le_trans}
 use native.Mathlib.Omega.{arith}
 use lib.Dec.{T, leb, ltb, leb→le, le→leb}
 use lib.Ieee.Fits.{and_i, and_l, and_r}
 use borrow.Author.Tests.{lt-ltb, ltb-true, ltb-false}
-use Rattle.arith.proofs.Tests.{taken}
-use Rattle.param_mapping.specs.declared.Mapped.{Mapped}
-use Rattle.param_mapping.specs.Mapping.{none, insert_by_id, entries_of, first_entry}
-use Rattle.param_mapping.specs.MappingParts.{better_of}
+use Rattle.std.specs.Prelude.{Option, Some, None}
+use Rattle.param_mapping.specs.Mapping.{insert_by_id, entries_of, first_entry}
+use Rattle.param_mapping.specs.MappingParts.{beats_of, better_of}
 use Rattle.slots.specs.Slot.{id_of}
 use Rattle.history_rows.specs.Rows.{slot_at}
 use Rattle.slots.specs.Slot.{present}
@@ -63,41 +62,41 @@ entries_sorted row (suc s) = go (entries_sorted row s) (present (slot_at row s))
     go h false = h
 
 -- what is found has no lesser id
-first_below : (t : List ℕ → Bool) (x : ℕ) (ws : List (List ℕ)) → T (below x ws) → (first_entry t ws).found ≡ true → x ≤ (first_entry t ws).id
+first_below : (t : List ℕ → Bool) (x : ℕ) (ws : List (List ℕ)) → T (below x ws) → (id : ℕ) → first_entry t ws ≡ Some id → x ≤ id
 unfolding first_entry
-first_below t x [] h e = absurd (taken e)
-first_below t x (w ∷ ws) h e = go (first_below t x ws (and_r (leb x (id_of w)) (below x ws) h)) (t w) e
+first_below t x [] h id e = cc
+first_below t x (w ∷ ws) h id e = go (first_below t x ws (and_r (leb x (id_of w)) (below x ws) h) id) (t w) e
   where
-    go : ((first_entry t ws).found ≡ true → x ≤ (first_entry t ws).id) → (b : Bool) → (cond b (record { found = true; id = id_of w }) (first_entry t ws)).found ≡ true → x ≤ (cond b (record { found = true; id = id_of w }) (first_entry t ws)).id
-    go f true e = leb→le x (id_of w) (and_l (leb x (id_of w)) (below x ws) h)
+    go : (first_entry t ws ≡ Some id → x ≤ id) → (b : Bool) → cond b (Some (id_of w)) (first_entry t ws) ≡ Some id → x ≤ id
+    go f true e = let i : id_of w ≡ id = cc in rw (← i) (leb→le x (id_of w) (and_l (leb x (id_of w)) (below x ws) h))
     go f false e = f e
 
 -- the better of a slot and what was found
-abbrev chosen : (List ℕ → Bool) → List ℕ → Mapped → Mapped
-chosen t v m = cond (t v && (not m.found || ltb (id_of v) m.id)) (record { found = true; id = id_of v }) m
+abbrev chosen : (List ℕ → Bool) → List ℕ → Option ℕ → Option ℕ
+chosen t v m = cond (t v && beats_of (id_of v) m) (Some (id_of v)) m
 
 -- a slot before all that could be found
-chosen-first : (t : List ℕ → Bool) (v : List ℕ) (m : Mapped) → (m.found ≡ true → ltb (id_of v) m.id ≡ true) → cond (t v) (record { found = true; id = id_of v }) m ≡ chosen t v m
-chosen-first t v m f = go (t v) m.found f
+chosen-first : (t : List ℕ → Bool) (v : List ℕ) (m : Option ℕ) → ((id : ℕ) → m ≡ Some id → ltb (id_of v) id ≡ true) → cond (t v) (Some (id_of v)) m ≡ chosen t v m
+chosen-first t v m f = go (t v) m f
   where
-    go : (b c : Bool) → (c ≡ true → ltb (id_of v) m.id ≡ true) → cond b (record { found = true; id = id_of v }) m ≡ cond (b && (not c || ltb (id_of v) m.id)) (record { found = true; id = id_of v }) m
-    go true true f = rw (f refl)
-    go true false f = refl
-    go false c f = refl
+    go : (b : Bool) (m : Option ℕ) → ((id : ℕ) → m ≡ Some id → ltb (id_of v) id ≡ true) → cond b (Some (id_of v)) m ≡ cond (b && beats_of (id_of v) m) (Some (id_of v)) m
+    go true (Some id) f = rw (f id refl)
+    go true None f = refl
+    go false m f = refl
 
 first-insert : (t : List ℕ → Bool) (v : List ℕ) (ws : List (List ℕ)) → T (sorted ws) → first_entry t (insert_by_id v ws) ≡ chosen t v (first_entry t ws)
 unfolding insert_by_id first_entry
-first-insert t v [] h = chosen-first t v none (λ e. absurd (taken e))
+first-insert t v [] h = chosen-first t v None (λ id e. cc)
 first-insert t v (w ∷ ws) h = go (first-insert t v ws (and_r (below (id_of w) ws) (sorted ws) h)) (ltb (id_of v) (id_of w)) refl
   where
     go : first_entry t (insert_by_id v ws) ≡ chosen t v (first_entry t ws) → (b : Bool) → ltb (id_of v) (id_of w) ≡ b → first_entry t (cond b (v ∷ w ∷ ws) (w ∷ insert_by_id v ws)) ≡ chosen t v (first_entry t (w ∷ ws))
     go f true e =
         let l = ltb-true (id_of v) (id_of w) e in
-        chosen-first t v (first_entry t (w ∷ ws)) (λ q. let b = first_below t (id_of w) (w ∷ ws) (and_i (leb (id_of w) (id_of w)) (below (id_of w) ws) (le→leb (id_of w) (id_of w) (omega arith)) (and_l (below (id_of w) ws) (sorted ws) h)) q in lt-ltb (id_of v) (first_entry t (w ∷ ws)).id (omega arith))
+        chosen-first t v (first_entry t (w ∷ ws)) (λ id q. let b = first_below t (id_of w) (w ∷ ws) (and_i (leb (id_of w) (id_of w)) (below (id_of w) ws) (le→leb (id_of w) (id_of w) (omega arith)) (and_l (below (id_of w) ws) (sorted ws) h)) id q in lt-ltb (id_of v) id (omega arith))
     go f false e = later f e (t w)
       where
         later : first_entry t (insert_by_id v ws) ≡ chosen t v (first_entry t ws) → ltb (id_of v) (id_of w) ≡ false → (c : Bool)
-            → cond c (record { found = true; id = id_of w }) (first_entry t (insert_by_id v ws)) ≡ chosen t v (cond c (record { found = true; id = id_of w }) (first_entry t ws))
+            → cond c (Some (id_of w)) (first_entry t (insert_by_id v ws)) ≡ chosen t v (cond c (Some (id_of w)) (first_entry t ws))
         later f e true = rw (e, and-false (t v))
         later f e false = f
 
@@ -107,6 +106,6 @@ unfolding entries_of
 entries-better t row s = go (present (slot_at row s))
   where
     go : (b : Bool) → first_entry t (cond b (insert_by_id (slot_at row s) (entries_of row s)) (entries_of row s))
-        ≡ cond (b && t (slot_at row s) && (not (first_entry t (entries_of row s)).found || ltb (id_of (slot_at row s)) (first_entry t (entries_of row s)).id)) (record { found = true; id = id_of (slot_at row s) }) (first_entry t (entries_of row s))
+        ≡ cond (b && t (slot_at row s) && beats_of (id_of (slot_at row s)) (first_entry t (entries_of row s))) (Some (id_of (slot_at row s))) (first_entry t (entries_of row s))
     go true = first-insert t (slot_at row s) (entries_of row s) (entries_sorted row s)
     go false = refl

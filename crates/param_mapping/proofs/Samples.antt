@@ -1,11 +1,10 @@
 -- Small dimensions and rows, for cases computed: one slot is an int from 0 to 4, another an int from 0 to 8. Definitions only.
 use Prim.Native.Nat.{ℕ}
-use mathlib.Core.Bool.{true, false}
+use mathlib.Core.Bool.{false}
 use mathlib.Core.List.{List, [], ◌∷◌, ◌++◌}
 use lib.IntN.{pos}
 use Rattle.distribution.specs.declared.Distribution.{Distribution}
 use Rattle.dimensions.specs.declared.DimensionInfo.{DimensionInfo}
-use Rattle.param_mapping.specs.declared.Mapped.{Mapped}
 use Rattle.dimensions.specs.Dimensions.{dimension_of}
 use Rattle.history_rows.proofs.Samples.{slot, absent, row}
 
@@ -20,9 +19,6 @@ choices n = Distribution.Categorical (record { n_choices = n })
 
 abbrev pub dims : List DimensionInfo
 dims = dimension_of (int 4) ∷ dimension_of (choices 3) ∷ dimension_of (int 4) ∷ []
-
-abbrev pub some : ℕ → Mapped
-some id = record { found = true; id = id }
 
 -- the first row has the choice under 1 and the ints under 9 and 4
 abbrev pub first : List ℕ

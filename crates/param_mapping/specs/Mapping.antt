@@ -1,14 +1,15 @@
 -- "Mapping: the first recent row's entries sorted by id; each dimension in order consumes the first equal distribution." Definitions only.
-use Rattle.std.specs.Prelude.{ℕ, zero, suc, Bool, true, false, not, ◌&&◌, cond, List, [], ◌∷◌, eqb, ltb, get_or, Some}
+use Rattle.refusal.specs.declared.Refusal.{Refusal}
+use Rattle.refusal.specs.declared.Refusal.TheVariants.{OutOfDomain}
+use Rattle.std.specs.Prelude.{ℕ, zero, suc, Bool, false, not, ◌&&◌, cond, List, [], ◌∷◌, eqb, ltb, get_or, Option, Some, None, Result, Ok, Err}
+use Rattle.std.specs.Result.{result_and}
 use Rattle.arith.specs.Lists.{every, grown, filled}
 use Rattle.distribution.specs.declared.Distribution.{Distribution}
 use Rattle.dimensions.specs.declared.DimensionInfo.{DimensionInfo}
-use Rattle.param_mapping.specs.declared.Mapped.{Mapped}
-use Rattle.param_mapping.specs.declared.Mapping.{Mapping}
 use Rattle.dimensions.specs.Dimensions.{dimension_at, dimensions_ok}
 use Rattle.history_rows.specs.Rows.{row_at, slot_at, recent_of}
 use Rattle.slots.specs.Slot.{id_of, present, slot_read, reads_equal}
-use Rattle.history_rows.specs.Tests.{refusal_of}
+use Rattle.history_rows.specs.Tests.{check_of}
 
 -- a slot put before the first one of a greater id
 unfoldable pub insert_by_id : List ℕ → List (List ℕ) → List (List ℕ)
@@ -21,38 +22,35 @@ unfolding insert_by_id
 entries_of row zero = []
 entries_of row (suc s) = cond (present (slot_at row s)) (insert_by_id (slot_at row s) (entries_of row s)) (entries_of row s)
 
-abbrev pub none : Mapped
-none = record { found = false; id = 0 }
-
--- the first entry for which the test holds
-unfoldable pub first_entry : (List ℕ → Bool) → List (List ℕ) → Mapped
-first_entry t [] = none
-first_entry t (v ∷ vs) = cond (t v) (record { found = true; id = id_of v }) (first_entry t vs)
+-- the id of the first entry for which the test holds
+unfoldable pub first_entry : (List ℕ → Bool) → List (List ℕ) → Option ℕ
+first_entry t [] = None
+first_entry t (v ∷ vs) = cond (t v) (Some (id_of v)) (first_entry t vs)
 
 -- an id that one of the first j dimensions consumed
-abbrev pub is_mapped : ℕ → Mapped → Bool
-is_mapped id m = m.found && eqb m.id id
+abbrev pub is_mapped : ℕ → Option ℕ → Bool
+is_mapped id (Some found) = eqb found id
+is_mapped id None = false
 
-unfoldable pub consumed_of : List Mapped → ℕ → ℕ → Bool
-consumed_of mapping j id = not (every j (λ i. not (is_mapped id (get_or mapping i none))))
+unfoldable pub consumed_of : List (Option ℕ) → ℕ → ℕ → Bool
+consumed_of mapping j id = not (every j (λ i. not (is_mapped id (get_or mapping i None))))
 
 -- an entry that dimension j may consume, after the ones before it
-unfoldable pub matches_of : List Mapped → ℕ → Distribution → List ℕ → Bool
+unfoldable pub matches_of : List (Option ℕ) → ℕ → Distribution → List ℕ → Bool
 unfolding consumed_of slot_read
 matches_of before j d v = reads_equal (Some d) (slot_read v) && not (consumed_of before j (id_of v))
 
 -- the ids of k dimensions in a row of n slots
-unfoldable pub mapped_of : ℕ → List DimensionInfo → ℕ → List ℕ → List Mapped
+unfoldable pub mapped_of : ℕ → List DimensionInfo → ℕ → List ℕ → List (Option ℕ)
 unfolding entries_of first_entry matches_of
 mapped_of n dims k row = grown (λ before j. first_entry (matches_of before j (dimension_at dims j).distribution) (entries_of row n)) k
 
 -- "a malformed dimension, a count over 20 or slots outside 1 to 20" is 11, then the tests 3 to 7
-unfoldable pub number_of : ℕ → List DimensionInfo → ℕ → List ℕ → ℕ
-unfolding dimensions_ok refusal_of
-number_of n dims k h = cond (dimensions_ok dims k) (refusal_of n h) 11
+unfoldable pub asked_of : ℕ → List DimensionInfo → ℕ → List ℕ → Result Unit Refusal
+unfolding dimensions_ok check_of
+asked_of n dims k h = cond (dimensions_ok dims k) (check_of n h) (Err OutOfDomain)
 
-unfoldable pub mapping_of : ℕ → List DimensionInfo → ℕ → List ℕ → Mapping
-unfolding number_of mapped_of recent_of
-mapping_of n dims k h =
-    cond (eqb (number_of n dims k h) 0) (record { number = 0; ids = filled none 20 (mapped_of n dims k (row_at n (recent_of n h) 0)) })
-    (record { number = number_of n dims k h; ids = filled none 20 [] })
+-- past the dimensions there is none
+unfoldable pub mapping_of : ℕ → List DimensionInfo → ℕ → List ℕ → Result (List (Option ℕ)) Refusal
+unfolding asked_of mapped_of recent_of
+mapping_of n dims k h = result_and (asked_of n dims k h) (Ok (filled None 20 (mapped_of n dims k (row_at n (recent_of n h) 0))))

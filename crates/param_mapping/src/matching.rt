@@ -1,29 +1,27 @@
 // The mapping from the first recent row of a history.
-ghost use Rattle.std.specs.Prelude.{◌≡◌, ◌*◌, ◌≤◌, not, ◌||◌, ltb, length};
+ghost use Rattle.std.specs.Prelude.{◌≡◌, ◌*◌, ◌≤◌, length, None};
 ghost use Rattle.arith.specs.Lists.{filled};
-ghost use Rattle.param_mapping.specs.Mapping.{none, first_entry, entries_of, is_mapped, consumed_of, matches_of, mapped_of, number_of, mapping_of};
-ghost use Rattle.param_mapping.specs.MappingParts.{better_of};
+ghost use Rattle.param_mapping.specs.Mapping.{first_entry, entries_of, is_mapped, consumed_of, matches_of, mapped_of, asked_of, mapping_of};
+ghost use Rattle.param_mapping.specs.MappingParts.{beats_of, better_of};
 ghost use Rattle.history_rows.specs.Rows.{width_of, row_at};
 
-use crate::{Mapped, Mapping};
 use dimensions::DimensionInfo;
 use distribution::Distribution;
+use refusal::Refusal;
 
-// No id.
-const NONE: Mapped = Mapped {
-    found: false,
-    id: 0,
-};
-
-fn is_mapped(id: u64, m: Mapped) -> bool
+// Whether that is the id of a dimension.
+fn is_mapped(id: u64, m: Option<u64>) -> bool
     ensures { result ≡ is_mapped id m }
 {
-    m.found && m.id == id
+    match m {
+        Some(found) => found == id,
+        None => false,
+    }
 }
 
 // Whether one of the dimensions before this one consumed the id.
 #[tactic(auto, unfolding(crate::specs::Mapping::consumed_of))]
-fn consumed(before: &[Mapped], id: u64) -> bool
+fn consumed(before: &[Option<u64>], id: u64) -> bool
     ensures { result ≡ consumed_of before.now (length before.now) id }
 {
     before.iter().any(|m| is_mapped(id, *m))
@@ -31,7 +29,7 @@ fn consumed(before: &[Mapped], id: u64) -> bool
 
 // Whether the dimension after these may consume the slot.
 #[tactic(auto, unfolding(crate::specs::Mapping::matches_of))]
-fn matches(before: &[Mapped], d: Distribution, slot: &[u64]) -> bool
+fn matches(before: &[Option<u64>], d: Distribution, slot: &[u64]) -> bool
     requires { length slot.now ≡ 8 }
     ensures { result ≡ matches_of before.now (length before.now) d slot.now }
 {
@@ -39,30 +37,33 @@ fn matches(before: &[Mapped], d: Distribution, slot: &[u64]) -> bool
 }
 
 // Whether an id comes before that of the entry found so far.
-fn beats(id: u64, best: Mapped) -> bool
-    ensures { result ≡ (not best.found || ltb id best.id) }
+fn beats(id: u64, best: Option<u64>) -> bool
+    ensures { result ≡ beats_of id best }
 {
-    !best.found || id < best.id
+    match best {
+        Some(other) => id < other,
+        None => true,
+    }
 }
 
 // The better of a slot and the entry found so far.
-fn better(before: &[Mapped], d: Distribution, slot: &[u64], best: Mapped) -> Mapped
+fn better(before: &[Option<u64>], d: Distribution, slot: &[u64], best: Option<u64>) -> Option<u64>
     requires { length slot.now ≡ 8 }
     ensures { result ≡ better_of (matches_of before.now (length before.now) d) slot.now best }
 {
     let id = slot[0];
     if slots::is_present(slot) && matches(before, d, slot) && beats(id, best) {
-        return Mapped { found: true, id };
+        return Some(id);
     }
     best
 }
 
 // The first entry by id that the dimension after these may consume.
-fn first_entry(n: usize, row: &[u64], before: &[Mapped], d: Distribution) -> Mapped
+fn first_entry(n: usize, row: &[u64], before: &[Option<u64>], d: Distribution) -> Option<u64>
     requires { (n ≤ 20) × (length row.now ≡ width_of n) }
     ensures { result ≡ first_entry (matches_of before.now (length before.now) d) (entries_of row.now n) }
 {
-    let mut best = NONE;
+    let mut best = None;
     for s in 0..n {
         let at = 3 + 8 * s;
         best = better(before, d, &row[at..at + 8], best);
@@ -71,11 +72,11 @@ fn first_entry(n: usize, row: &[u64], before: &[Mapped], d: Distribution) -> Map
 }
 
 // The ids of k dimensions in a row.
-fn mapped(n: usize, dims: &[DimensionInfo; 20], k: usize, row: &[u64]) -> [Mapped; 20]
+fn mapped(n: usize, dims: &[DimensionInfo; 20], k: usize, row: &[u64]) -> [Option<u64>; 20]
     requires { (n ≤ 20) × (k ≤ 20) × (length row.now ≡ width_of n) }
-    ensures { result ≡ filled none 20 (mapped_of n dims.now k row.now) }
+    ensures { result ≡ filled None 20 (mapped_of n dims.now k row.now) }
 {
-    let mut out = [NONE; 20];
+    let mut out = [None; 20];
     for j in 0..k {
         let dim = dims[j];
         out[j] = first_entry(n, row, &out[..j], dim.distribution);
@@ -90,46 +91,40 @@ fn recent_mapping(
     k: usize,
     m: usize,
     r: &[u64],
-) -> [Mapped; 20]
+) -> [Option<u64>; 20]
     requires { (n ≤ 20) × (k ≤ 20) × (length r.now ≡ m * width_of n) }
-    ensures { result ≡ filled none 20 (mapped_of n dims.now k (row_at n r.now 0)) }
+    ensures { result ≡ filled None 20 (mapped_of n dims.now k (row_at n r.now 0)) }
 {
     if m == 0 {
-        return [NONE; 20];
+        return [None; 20];
     }
     mapped(n, dims, k, &r[..3 + 8 * n])
 }
 
-// The number of a call with dimensions: 11 for the dimensions, then the history's.
-#[tactic(auto, unfolding(crate::specs::Mapping::number_of))]
-fn number(slots: usize, dims: [DimensionInfo; 20], k: usize, h: &[u64]) -> u64
-    ensures { result ≡ number_of slots dims k h.now }
+// The dimensions, and then the history's tests.
+#[tactic(auto, unfolding(crate::specs::Mapping::asked_of))]
+fn check(slots: usize, dims: [DimensionInfo; 20], k: usize, h: &[u64]) -> Result<(), Refusal>
+    ensures { result ≡ asked_of slots dims k h.now }
 {
     if !dimensions::dimensions_ok(dims, k) {
-        return 11;
+        return Err(Refusal::OutOfDomain);
     }
-    history_rows::refusal(slots, h)
+    history_rows::check(slots, h)
 }
 
-// The ids of k dimensions, from the first recent row of a history.
+// The ids of k dimensions, from the first recent row of a history. A dimension may have none, and what lies past them has none.
 pub fn establish_param_mapping(
     slots: usize,
     dims: [DimensionInfo; 20],
     k: usize,
     h: &[u64],
-) -> Mapping
+) -> Result<[Option<u64>; 20], Refusal>
     ensures { result ≡ mapping_of slots dims k h.now }
 {
-    let number = number(slots, dims, k, h);
-    if number != 0 {
-        return Mapping {
-            number,
-            ids: [NONE; 20],
-        };
-    }
+    check(slots, dims, k, h)?;
     let recent = history_rows::recent_part(slots, h);
     let start = recent.start;
     let m = recent.rows;
     let ids = recent_mapping(slots, &dims, k, m, &h[start..]);
-    Mapping { number: 0, ids }
+    Ok(ids)
 }

@@ -34,9 +34,9 @@ use Rattle.scaling.specs.Scaling.{from_normalized_of, to_normalized_of}
 use Rattle.gp_model.specs.Statistics.{all_within, lengthscale_of, mean_of, variance_of}
 use Rattle.dimensions.specs.declared.DimensionInfo.{DimensionInfo}
 use Rattle.dimensions.specs.Dimensions.{dimension_of, dimension_ok, dimensions_ok, columns_of}
-use Rattle.param_mapping.specs.Mapping.{insert_by_id, entries_of, first_entry, consumed_of, matches_of, mapped_of, number_of}
+use Rattle.param_mapping.specs.Mapping.{insert_by_id, entries_of, first_entry, consumed_of, matches_of, mapped_of, asked_of}
 use Rattle.history_rows.specs.Rows.{whole_rows, row_count, recent_count, recent_of}
-use Rattle.history_rows.specs.Tests.{row_ok, slots_ok, ids_once, rows_agreeing, recent_tests, refusal_of}
+use Rattle.history_rows.specs.Tests.{row_ok, slots_ok, ids_once, rows_agreeing, recent_tests, check_of}
 use Rattle.slots.specs.Slot.{slot_read, slot_ok, agreeing}
 use Rattle.history_rows.specs.Slots.{slot_with}
 use Rattle.history.specs.Training.{entry_of, column_of, kept_of, trains_of, covers_of, x_of, y_of, training_of, recent_training}
@@ -72,7 +72,7 @@ New =
     × ((compute_candidate_of (settings 0) dims 2 1 (7 ∷ [])).number ≡ 3)
 
 new : New
-unfolding compute_candidate_of candidate_number candidate_of point_for step_of walk_of settings_ok view_of training_of recent_training kept_of trains_of covers_of x_of y_of number_of mapped_of entries_of insert_by_id first_entry matches_of dimension_ok dimensions_ok columns_of whole_rows row_count recent_count recent_of recent_tests refusal_of fit_of fit_domain all_within from_normalized_of bounds_of ends_of from_internal_of decoded_of int_grid sample_random_of random_of int_random linear_int_random categorical_random from_whole shape_of int_shape int_step categorical_shape whole_draw_of whole_at range_ok unit_of next_of moved_of nearest_of round_of every grown place_of places_of of_bits to_bits of_int to_signed round add sub mul div neg le lt eq is_nan
+unfolding compute_candidate_of candidate_number candidate_of point_for step_of walk_of settings_ok view_of training_of recent_training kept_of trains_of covers_of x_of y_of asked_of mapped_of entries_of insert_by_id first_entry matches_of dimension_ok dimensions_ok columns_of whole_rows row_count recent_count recent_of recent_tests check_of fit_of fit_domain all_within from_normalized_of bounds_of ends_of from_internal_of decoded_of int_grid sample_random_of random_of int_random linear_int_random categorical_random from_whole shape_of int_shape int_step categorical_shape whole_draw_of whole_at range_ok unit_of next_of moved_of nearest_of round_of every grown place_of places_of of_bits to_bits of_int to_signed round add sub mul div neg le lt eq is_nan
 new = (refl, refl, refl, refl)
 
 -- one row, the int taken at 5: start-up 1 is reached, the fit gives a model, and without candidates every coordinate is 0.5, which decodes to 5; the choice takes the one word
@@ -80,5 +80,5 @@ abbrev Modelled : Type 0
 Modelled = said (compute_candidate_of (settings 1) dims 2 1 (7 ∷ 1 ∷ 0 ∷ 9 ∷ 2 ∷ 0 ∷ 9 ∷ 0 ∷ 0 ∷ 0 ∷ 5 ∷ [])) ≡ (0, 1, ParamValue.Categorical 1, ParamValue.Int (pos 5))
 
 modelled : Modelled
-unfolding compute_candidate_of candidate_number candidate_of point_for step_of walk_of settings_ok view_of training_of recent_training slot_with entry_of column_of kept_of trains_of covers_of x_of y_of number_of mapped_of entries_of insert_by_id first_entry consumed_of matches_of dimension_ok dimensions_ok columns_of whole_rows row_count recent_count recent_of row_ok slot_read slot_ok agreeing slots_ok ids_once rows_agreeing recent_tests refusal_of equal_of int_equal taken_of value_of int_taken read_of checked_of int_read encoded_of to_internal_of to_normalized_of optimum_of advance_of fit_of fit_domain fitted_of all_within covariance_of similarity_of lengthscale_of variance_of mean_of cholesky_of factor_columns rows_of less_of matern52_of scaled_root_of decay_of sum_over exp_of horner_of reduced_of scaled_of whole_of sqrt_of root_of isqrt from_normalized_of bounds_of ends_of from_internal_of decoded_of int_grid sample_random_of random_of int_random linear_int_random categorical_random from_whole shape_of int_shape int_step categorical_shape whole_draw_of whole_at range_ok unit_of next_of moved_of nearest_of round_of every grown place_of places_of of_bits to_bits of_int to_signed round add sub mul div neg le lt eq is_nan
+unfolding compute_candidate_of candidate_number candidate_of point_for step_of walk_of settings_ok view_of training_of recent_training slot_with entry_of column_of kept_of trains_of covers_of x_of y_of asked_of mapped_of entries_of insert_by_id first_entry consumed_of matches_of dimension_ok dimensions_ok columns_of whole_rows row_count recent_count recent_of row_ok slot_read slot_ok agreeing slots_ok ids_once rows_agreeing recent_tests check_of equal_of int_equal taken_of value_of int_taken read_of checked_of int_read encoded_of to_internal_of to_normalized_of optimum_of advance_of fit_of fit_domain fitted_of all_within covariance_of similarity_of lengthscale_of variance_of mean_of cholesky_of factor_columns rows_of less_of matern52_of scaled_root_of decay_of sum_over exp_of horner_of reduced_of scaled_of whole_of sqrt_of root_of isqrt from_normalized_of bounds_of ends_of from_internal_of decoded_of int_grid sample_random_of random_of int_random linear_int_random categorical_random from_whole shape_of int_shape int_step categorical_shape whole_draw_of whole_at range_ok unit_of next_of moved_of nearest_of round_of every grown place_of places_of of_bits to_bits of_int to_signed round add sub mul div neg le lt eq is_nan
 modelled = refl

@@ -26,7 +26,7 @@ use Rattle.search.proofs.Earliest.{earliest}
 use Rattle.dimensions.specs.declared.DimensionInfo.{DimensionInfo}
 use Rattle.history_view.specs.declared.View.{View}
 use Rattle.dimensions.specs.Dimensions.{dimension_at, columns_of}
-use Rattle.history_view.specs.View.{view_of}
+use Rattle.history_view.specs.View.{seen_of}
 use Rattle.settings.specs.declared.Settings.{Settings}
 use Rattle.proposal.specs.declared.Point.{Point}
 use Rattle.proposal.specs.declared.Proposal.{Proposal}
@@ -93,7 +93,7 @@ pub record StoresEarliest (dims : List DimensionInfo) (k candidates w : ℕ) (m 
 
 module _ (s : Settings) (dims : List DimensionInfo) (k w : ℕ) (h : List ℕ) where
   abbrev view : View
-  view = view_of s.slots s.n_startup_trials dims k h
+  view = seen_of s.slots s.n_startup_trials dims k h
 
   abbrev fit : Result Model Refusal
   fit = fit_for view.training s.noise_variance

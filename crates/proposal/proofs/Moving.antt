@@ -30,7 +30,7 @@ use Rattle.dimensions.specs.declared.DimensionInfo.{DimensionInfo}
 use Rattle.history.specs.declared.Training.{Training}
 use Rattle.history_view.specs.declared.View.{View}
 use Rattle.dimensions.specs.Dimensions.{dimension_at, columns_of}
-use Rattle.history_view.specs.View.{view_of}
+use Rattle.history_view.specs.View.{seen_of}
 use Rattle.settings.specs.declared.Settings.{Settings}
 use Rattle.proposal.specs.declared.Point.{Point}
 use Rattle.proposal.specs.Proposal.{from_point, at_random, candidate_of, candidate_number, refused_of as refused_proposal, compute_candidate_of}
@@ -122,7 +122,7 @@ module _ (s : Settings) (dims : List DimensionInfo) (k w : ℕ) where
   unfolding compute_candidate_of
   compute-moves h = go (eqb (candidate_number s dims k w h) 0)
     where
-      go : (b : Bool) → (cond b (candidate_of s dims k w (view_of s.slots s.n_startup_trials dims k h)) (refused_proposal (candidate_number s dims k w h) w)).next
-          ≡ moved_of (cond b (candidate_of s dims k w (view_of s.slots s.n_startup_trials dims k h)) (refused_proposal (candidate_number s dims k w h) w)).drawn w
-      go true = candidate-moves (view_of s.slots s.n_startup_trials dims k h)
+      go : (b : Bool) → (cond b (candidate_of s dims k w (seen_of s.slots s.n_startup_trials dims k h)) (refused_proposal (candidate_number s dims k w h) w)).next
+          ≡ moved_of (cond b (candidate_of s dims k w (seen_of s.slots s.n_startup_trials dims k h)) (refused_proposal (candidate_number s dims k w h) w)).drawn w
+      go true = candidate-moves (seen_of s.slots s.n_startup_trials dims k h)
       go false = unfold moved_of in refl

@@ -1,4 +1,8 @@
 -- Which answer a new trial's number says, and how many words its point takes. Assumes nothing.
+use Rattle.refusal.specs.declared.Refusal.{Refusal}
+use Rattle.std.specs.Prelude.{Result, Ok}
+use Rattle.std.specs.Result.{result_unwrap_or}
+use Rattle.history_view.specs.declared.View.{View}
 use Prim.Native.Nat.{ℕ, ◌≤◌}
 use mathlib.Core.Path.{◌≡◌, sym, ap, ◌∙◌}
 use mathlib.Core.Bool.{Bool, true, false, not, ◌&&◌, cond}
@@ -15,10 +19,11 @@ use Rattle.refusal.specs.declared.Refusal.{Refusal}
 use Rattle.gp_model.specs.declared.Model.{Model}
 use Rattle.dimensions.specs.declared.DimensionInfo.{DimensionInfo}
 use Rattle.history.specs.declared.Training.{Training}
-use Rattle.param_mapping.specs.Mapping.{number_of}
-use Rattle.history_view.specs.View.{view_of}
+use Rattle.refusal.specs.Numbers.{number_of}
+use Rattle.param_mapping.specs.Mapping.{asked_of}
+use Rattle.history_view.specs.View.{view_of, no_view, seen_of}
 use Rattle.history.proofs.Counts.{Counts, training-counts}
-use Rattle.history.proofs.FromArray.{training-number}
+use Rattle.history_view.proofs.Views.{none-refused, view-number, seen-training}
 use Rattle.param_mapping.proofs.Opened.{opened}
 use Rattle.settings.specs.declared.Settings.{Settings}
 use Rattle.settings.specs.Settings.{settings_ok}
@@ -37,35 +42,40 @@ module _ (s : Settings) (dims : List DimensionInfo) (k w : ℕ) (h : List ℕ) w
   pub refused-is : (n : ℕ) → candidate_number s dims k w h ≡ n → (n ≡ 0 → ⊥) → compute_candidate_of s dims k w h ≡ refused_of n w
   unfolding compute_candidate_of
   refused-is n e p =
-      ap (λ (m : ℕ). cond (eqb m 0) (candidate_of s dims k w (view_of s.slots s.n_startup_trials dims k h)) (refused_of m w)) e
-      ∙ ap (λ (b : Bool). cond b (candidate_of s dims k w (view_of s.slots s.n_startup_trials dims k h)) (refused_of n w)) (ne_eqb n 0 p)
+      ap (λ (m : ℕ). cond (eqb m 0) (candidate_of s dims k w (seen_of s.slots s.n_startup_trials dims k h)) (refused_of m w)) e
+      ∙ ap (λ (b : Bool). cond b (candidate_of s dims k w (seen_of s.slots s.n_startup_trials dims k h)) (refused_of n w)) (ne_eqb n 0 p)
 
-  pub accepted-is : candidate_number s dims k w h ≡ 0 → compute_candidate_of s dims k w h ≡ candidate_of s dims k w (view_of s.slots s.n_startup_trials dims k h)
+  pub accepted-is : candidate_number s dims k w h ≡ 0 → compute_candidate_of s dims k w h ≡ candidate_of s dims k w (seen_of s.slots s.n_startup_trials dims k h)
   unfolding compute_candidate_of
-  accepted-is e = ap (λ (b : Bool). cond b (candidate_of s dims k w (view_of s.slots s.n_startup_trials dims k h)) (refused_of (candidate_number s dims k w h) w)) (eq-eqb (candidate_number s dims k w h) 0 e)
+  accepted-is e = ap (λ (b : Bool). cond b (candidate_of s dims k w (seen_of s.slots s.n_startup_trials dims k h)) (refused_of (candidate_number s dims k w h) w)) (eq-eqb (candidate_number s dims k w h) 0 e)
 
   pub out_of_range : settings_ok s ≡ false → candidate_number s dims k w h ≡ 11
   unfolding candidate_number
-  out_of_range e = ap (λ (b : Bool). cond (b && not (eqb w 0)) (number_of s.slots dims k h) 11) e
+  out_of_range e = ap (λ (b : Bool). cond (b && not (eqb w 0)) (number_of (asked_of s.slots dims k h)) 11) e
 
   pub zero_word : settings_ok s ≡ true → w ≡ 0 → candidate_number s dims k w h ≡ 11
   unfolding candidate_number
-  zero_word e z = ap (λ (b : Bool). cond (b && not (eqb w 0)) (number_of s.slots dims k h) 11) e ∙ ap (λ (b : Bool). cond (not b) (number_of s.slots dims k h) 11) (eq-eqb w 0 z)
+  zero_word e z = ap (λ (b : Bool). cond (b && not (eqb w 0)) (number_of (asked_of s.slots dims k h)) 11) e ∙ ap (λ (b : Bool). cond (not b) (number_of (asked_of s.slots dims k h)) 11) (eq-eqb w 0 z)
 
-  pub by-history : settings_ok s ≡ true → (w ≡ 0 → ⊥) → candidate_number s dims k w h ≡ (view_of s.slots s.n_startup_trials dims k h).training.number
-  by-history e z = ranged e z ∙ sym (unfold view_of in training-number s.slots dims k h)
+  pub by-history : settings_ok s ≡ true → (w ≡ 0 → ⊥) → candidate_number s dims k w h ≡ number_of (view_of s.slots s.n_startup_trials dims k h)
+  by-history e z = ranged e z ∙ sym (view-number s.slots s.n_startup_trials dims k h)
     where
-      ranged : settings_ok s ≡ true → (w ≡ 0 → ⊥) → candidate_number s dims k w h ≡ number_of s.slots dims k h
-      ranged e z = unfold candidate_number in ap (λ (b : Bool). cond (b && not (eqb w 0)) (number_of s.slots dims k h) 11) e ∙ ap (λ (b : Bool). cond (not b) (number_of s.slots dims k h) 11) (ne_eqb w 0 z)
+      ranged : settings_ok s ≡ true → (w ≡ 0 → ⊥) → candidate_number s dims k w h ≡ number_of (asked_of s.slots dims k h)
+      ranged e z = unfold candidate_number in ap (λ (b : Bool). cond (b && not (eqb w 0)) (number_of (asked_of s.slots dims k h)) 11) e ∙ ap (λ (b : Bool). cond (not b) (number_of (asked_of s.slots dims k h)) 11) (ne_eqb w 0 z)
 
   -- a view that is not refused
-  pub view-counts : (view_of s.slots s.n_startup_trials dims k h).training.number ≡ 0 → Counts (view_of s.slots s.n_startup_trials dims k h).training
-  unfolding view_of
-  view-counts e = training-counts s.slots dims k h (sym (training-number s.slots dims k h) ∙ e)
+  module _ (v : View) (e : view_of s.slots s.n_startup_trials dims k h ≡ Ok v) where
+    number-none : number_of (asked_of s.slots dims k h) ≡ 0
+    number-none = sym (view-number s.slots s.n_startup_trials dims k h) ∙ ap number_of e
 
-  pub view-dimensions : (view_of s.slots s.n_startup_trials dims k h).training.number ≡ 0 → k ≤ 20
-  unfolding view_of
-  view-dimensions e = (opened s.slots dims k h (sym (training-number s.slots dims k h) ∙ e)).1
+    pub view-is : seen_of s.slots s.n_startup_trials dims k h ≡ v
+    view-is = ap (λ (r : Result View Refusal). result_unwrap_or r no_view) e
+
+    pub view-counts : Counts v.training
+    view-counts = training-counts s.slots dims k h v.training (seen-training s.slots s.n_startup_trials dims k h number-none ∙ ap (λ (v : View). Ok v.training) view-is)
+
+    pub view-dimensions : k ≤ 20
+    view-dimensions = (opened s.slots dims k h (none-refused (asked_of s.slots dims k h) number-none)).1
 
 -- the candidates of settings in range
 pub candidates-few : (s : Settings) → settings_ok s ≡ true → s.n_candidates ≤ 10000

@@ -25,13 +25,15 @@ use Rattle.dimensions.specs.declared.DimensionInfo.{DimensionInfo}
 use Rattle.history.specs.declared.Training.{Training}
 use Rattle.history_view.specs.declared.View.{View}
 use Rattle.dimensions.specs.Dimensions.{dimension_at, dimension_ok, dimensions_ok, columns_of}
-use Rattle.param_mapping.specs.Mapping.{number_of}
+use Rattle.refusal.specs.Numbers.{number_of}
+use Rattle.param_mapping.specs.Mapping.{asked_of}
 use Rattle.history.specs.Training.{recent_training}
-use Rattle.history_view.specs.View.{view_of}
+use Rattle.history_view.specs.View.{view_of, seen_of}
 use Rattle.history.proofs.FromArray.{training-is}
 use Rattle.param_mapping.proofs.Opened.{accepted}
 use Rattle.dimensions.proofs.Ok.{dimensions-ok}
 use Rattle.history_view.proofs.Values.{floats-fit, bounds-shape}
+use Rattle.history_view.proofs.Views.{none-refused}
 use Rattle.settings.specs.declared.Settings.{Settings}
 use Rattle.settings.specs.Settings.{settings_ok}
 use Rattle.proposal.specs.declared.Proposal.{Proposal}
@@ -117,7 +119,7 @@ module _ (s : Settings) (dims : List DimensionInfo) (k w : ℕ) (n : Nonzero w) 
 
 module _ (s : Settings) (dims : List DimensionInfo) (k w : ℕ) (h : List ℕ) where
   abbrev view : View
-  view = view_of s.slots s.n_startup_trials dims k h
+  view = seen_of s.slots s.n_startup_trials dims k h
 
   -- then no test failed, of the word and of the history
   pub passes : (compute_candidate_of s dims k w h).number ≡ 0 → candidate_number s dims k w h ≡ 0
@@ -128,18 +130,18 @@ module _ (s : Settings) (dims : List DimensionInfo) (k w : ℕ) (h : List ℕ) w
       go true q e = eqb-true (candidate_number s dims k w h) 0 q
       go false q e = e
 
-  pub ranged : candidate_number s dims k w h ≡ 0 → (w ≡ 0 → ⊥) × (number_of s.slots dims k h ≡ 0)
+  pub ranged : candidate_number s dims k w h ≡ 0 → (w ≡ 0 → ⊥) × (number_of (asked_of s.slots dims k h) ≡ 0)
   unfolding candidate_number
   ranged = go (settings_ok s) (eqb w 0) refl
     where
-      go : (a b : Bool) → eqb w 0 ≡ b → cond (a && not b) (number_of s.slots dims k h) 11 ≡ 0 → (w ≡ 0 → ⊥) × (number_of s.slots dims k h ≡ 0)
+      go : (a b : Bool) → eqb w 0 ≡ b → cond (a && not b) (number_of (asked_of s.slots dims k h)) 11 ≡ 0 → (w ≡ 0 → ⊥) × (number_of (asked_of s.slots dims k h) ≡ 0)
       go true true q e = absurd (omega arith)
       go true false q e = (eqb-false w 0 q, e)
       go false b q e = absurd (omega arith)
 
-  pub view-columns : number_of s.slots dims k h ≡ 0 → view.training.d ≡ length (columns_of dims k)
+  pub view-columns : number_of (asked_of s.slots dims k h) ≡ 0 → view.training.d ≡ length (columns_of dims k)
   unfolding view_of recent_training
-  view-columns e = ap (λ (t : Training). t.d) (training-is s.slots dims k h e)
+  view-columns e = let t = training-is s.slots dims k h (none-refused (asked_of s.slots dims k h) e) in rw t
 
   drawable : T (dimensions_ok dims k) → ((i : ℕ) → i < k → Held (dimension_at dims i).distribution) → (i : ℕ) → i < k → Drawable (dimension_at dims i).distribution
   unfolding dimension_ok
@@ -153,4 +155,4 @@ module _ (s : Settings) (dims : List DimensionInfo) (k w : ℕ) (h : List ℕ) w
       let r = ranged c in
       let z = r.0 in
       ap (λ (p : Proposal). p.drawn) (accepted-is s dims k w h c)
-      ∙ candidate-words s dims k w (pos_of_ne-zero z, small) (drawable (accepted s.slots dims k h r.1).0 held) view (view-columns r.1)
+      ∙ candidate-words s dims k w (pos_of_ne-zero z, small) (drawable (accepted s.slots dims k h (none-refused (asked_of s.slots dims k h) r.1)).0 held) view (view-columns r.1)

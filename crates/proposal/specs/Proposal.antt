@@ -3,8 +3,9 @@ use Rattle.std.specs.Prelude.{ℕ, ◌+◌, true, false, not, ◌&&◌, cond, Li
 use Rattle.arith.specs.Lists.{filled, padded}
 use Rattle.dimensions.specs.declared.DimensionInfo.{DimensionInfo}
 use Rattle.history_view.specs.declared.View.{View}
-use Rattle.param_mapping.specs.Mapping.{number_of}
-use Rattle.history_view.specs.View.{view_of}
+use Rattle.refusal.specs.Numbers.{number_of}
+use Rattle.param_mapping.specs.Mapping.{asked_of}
+use Rattle.history_view.specs.View.{seen_of}
 use Rattle.settings.specs.declared.Settings.{Settings}
 use Rattle.settings.specs.Settings.{settings_ok}
 use Rattle.proposal.specs.declared.Point.{Point}
@@ -32,7 +33,7 @@ candidate_of s dims k w v =
 
 -- settings out of range and a zero word are 11, then the view's number
 unfoldable pub candidate_number : Settings → List DimensionInfo → ℕ → ℕ → List ℕ → ℕ
-candidate_number s dims k w h = cond (settings_ok s && not (eqb w 0)) (number_of s.slots dims k h) 11
+candidate_number s dims k w h = cond (settings_ok s && not (eqb w 0)) (number_of (asked_of s.slots dims k h)) 11
 
 abbrev pub refused_of : ℕ → ℕ → Proposal
 refused_of number w = record { number = number; values = filled empty_stored 20 []; drawn = 0; next = w }
@@ -40,5 +41,5 @@ refused_of number w = record { number = number; values = filled empty_stored 20 
 unfoldable pub compute_candidate_of : Settings → List DimensionInfo → ℕ → ℕ → List ℕ → Proposal
 unfolding candidate_of candidate_number
 compute_candidate_of s dims k w h =
-    cond (eqb (candidate_number s dims k w h) 0) (candidate_of s dims k w (view_of s.slots s.n_startup_trials dims k h))
+    cond (eqb (candidate_number s dims k w h) 0) (candidate_of s dims k w (seen_of s.slots s.n_startup_trials dims k h))
     (refused_of (candidate_number s dims k w h) w)

@@ -91,10 +91,8 @@ pub fn compute_candidate(
     if word == 0 {
         return refused(11, word);
     }
-    let v = history_view::view_of(s.slots as usize, s.n_startup_trials, dims, k, h);
-    let number = v.training.number;
-    if number != 0 {
-        return refused(number, word);
+    match history_view::view_of(s.slots as usize, s.n_startup_trials, dims, k, h) {
+        Ok(v) => candidate(s, dims, k, word, v),
+        Err(refusal) => refused(refusal.number(), word),
     }
-    candidate(s, dims, k, word, v)
 }

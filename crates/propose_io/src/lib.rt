@@ -57,6 +57,7 @@ pub fn skip(rt: HostRuntime, count: u64) -> u64
 {
     let mut buffer = [0u8; 65536];
     let mut left = count;
+    // Kept: each turn takes off what a read gave, and no range says that.
     while left > 0 {
         let end = input::asked(buffer.len(), left);
         let n = pieces::fill(rt, &mut buffer[..end]).n;

@@ -85,7 +85,10 @@ fn fit(t: &Training, noise_variance: f64) -> Result<Model, Refusal>
 fn put_trial(rt: HostRuntime, s: &Sampler, trial: u64, h: &[u64]) -> bool {
     let settings = s.settings;
     let slots = settings.slots as usize;
-    let v = history_view::view_of(slots, settings.n_startup_trials, s.dimensions, s.n_dims, h);
+    let Ok(v) = history_view::view_of(slots, settings.n_startup_trials, s.dimensions, s.n_dims, h)
+    else {
+        return true;
+    };
     let t = v.training;
     let d = t.d;
     if !v.reached || d < 1 || d > 20 || t.n > 100 {

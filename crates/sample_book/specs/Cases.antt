@@ -1,5 +1,5 @@
 -- Document 01's sample book, as facts of the definitions. Definitions and statements only.
-use Rattle.std.specs.Prelude.{◌≡◌, true, false, ℤ, pos, negsuc, [], ◌∷◌, Ok}
+use Rattle.std.specs.Prelude.{◌≡◌, false, ℤ, pos, negsuc, [], ◌∷◌, Some, None, Ok}
 use Rattle.std.specs.Int.Signed.{lt_z}
 use Rattle.std.specs.Float.{binary64}
 use Rattle.std.specs.Float.Ieee.{of_bits, of_int, to_bits}
@@ -13,7 +13,7 @@ use Rattle.distribution.specs.declared.ParamValue.{ParamValue}
 use Rattle.common.specs.Decode.{from_internal_of}
 use Rattle.common.specs.Random.{sample_random_of}
 use Rattle.dimensions.specs.Dimensions.{dimension_of}
-use Rattle.param_mapping.specs.Mapping.{none, mapping_of}
+use Rattle.param_mapping.specs.Mapping.{mapping_of}
 use Rattle.acquisition.specs.Improvement.{expected_improvement_of}
 use Rattle.acquisition.specs.Normal.{norm_cdf_of}
 use Rattle.rng_util.specs.Draws.{whole_draw_of}
@@ -53,4 +53,4 @@ pub record SampleBook : Type 0 where
   pub k-below : expected_improvement_of (of_int binary64 (pos 2)) (of_bits binary64 0) (of_int binary64 (pos 1)) ≡ Ok (of_bits binary64 0)
   -- (l) equal distributions under ids 9, 4 map to 4, then 9
   pub l : mapping_of 2 (dimension_of (ints (pos 0) (pos 9) (pos 0)) ∷ dimension_of (ints (pos 0) (pos 9) (pos 0)) ∷ []) 2 (7 ∷ 1 ∷ 0 ∷ 9 ∷ 2 ∷ 0 ∷ 9 ∷ 0 ∷ 0 ∷ 0 ∷ 5 ∷ 4 ∷ 2 ∷ 0 ∷ 9 ∷ 0 ∷ 0 ∷ 0 ∷ 5 ∷ [])
-      ≡ record { number = 0; ids = filled none 20 (record { found = true; id = 4 } ∷ record { found = true; id = 9 } ∷ []) }
+      ≡ Ok (filled None 20 (Some 4 ∷ Some 9 ∷ []))

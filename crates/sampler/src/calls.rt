@@ -7,14 +7,13 @@ use distribution::{Distribution, ParamValue};
 use sampler_laws::Sampled;
 use sampler_state::Sampler;
 
-// A well-formed distribution asked: the history's number, or an answer.
+// A well-formed distribution asked: the history's refusal, or an answer.
 fn asked(s: Sampler, d: Distribution, trial: u64, h: &[u64]) -> Sampled
     requires { s.n_dims ≤ 20 }
     ensures { result ≡ asked_of s (Some d) trial h.now }
 {
-    let number = history_rows::refusal(s.settings.slots as usize, h);
-    if number != 0 {
-        return states::refused(s, number);
+    if let Err(refusal) = history_rows::check(s.settings.slots as usize, h) {
+        return states::refused(s, refusal.number());
     }
     phases::served(s, d, trial, h)
 }

@@ -21,9 +21,9 @@ use Rattle.std.specs.Prelude.{Err}
 use Rattle.refusal.specs.declared.Refusal.TheVariants.{NoRows}
 use Rattle.gp_model.specs.Fit.{fit_of, fit_domain}
 use Rattle.gp_model.specs.Statistics.{all_within}
-use Rattle.param_mapping.specs.Mapping.{mapped_of, number_of}
+use Rattle.param_mapping.specs.Mapping.{mapped_of, asked_of}
 use Rattle.history_rows.specs.Rows.{whole_rows, row_count, recent_count, recent_of}
-use Rattle.history_rows.specs.Tests.{recent_tests, refusal_of}
+use Rattle.history_rows.specs.Tests.{recent_tests, check_of}
 use Rattle.history.specs.Training.{kept_of, x_of, y_of, training_of, recent_training}
 use Rattle.history_view.specs.View.{view_of}
 use Rattle.settings.specs.Settings.{settings_ok}
@@ -91,7 +91,7 @@ Run =
     × (said (choice (with_word fresh 0) 7) ≡ (11, ParamValue.Refused 11, 0))
 
 run : Run
-unfolding sample_of close_of discover_of serving_of active_of served_of trial_place free_place spot_for taken_count place_ok trials_once sampler_ok settings_ok candidate_of candidate_number compute_candidate_of step_of walk_of view_of training_of recent_training number_of dimension_ok dimensions_ok columns_of whole_rows row_count recent_count recent_of recent_tests refusal_of bounds_of ends_of sample_random_of random_of int_random linear_int_random categorical_random from_whole shape_of int_shape int_step categorical_shape read_of checked_of int_read categorical_read whole_draw_of whole_of range_ok step every grown place_of places_of of_bits to_bits of_int le lt eq neg
+unfolding sample_of close_of discover_of serving_of active_of served_of trial_place free_place spot_for taken_count place_ok trials_once sampler_ok settings_ok candidate_of candidate_number compute_candidate_of step_of walk_of view_of training_of recent_training asked_of dimension_ok dimensions_ok columns_of whole_rows row_count recent_count recent_of recent_tests check_of bounds_of ends_of sample_random_of random_of int_random linear_int_random categorical_random from_whole shape_of int_shape int_step categorical_shape read_of checked_of int_read categorical_read whole_draw_of whole_of range_ok step every grown place_of places_of of_bits to_bits of_int le lt eq neg
 run = (refl, refl, refl, refl, refl, refl, refl, refl, refl, refl, refl, refl)
 
 -- ---- the same run as a list of calls, and what the laws say of each
@@ -130,7 +130,7 @@ Laws =
     × (fit_made third.sampler [] ≡ false)
 
 laws : Laws
-unfolding new_trial has_model words_taken answers_of end_of sample_of close_of discover_of serving_of active_of served_of trial_place free_place spot_for taken_count place_ok trials_once sampler_ok settings_ok candidate_of candidate_number compute_candidate_of step_of walk_of view_of training_of recent_training number_of dimension_ok dimensions_ok columns_of whole_rows row_count recent_count recent_of recent_tests refusal_of bounds_of ends_of sample_random_of random_of int_random linear_int_random categorical_random from_whole shape_of int_shape int_step categorical_shape read_of checked_of int_read categorical_read whole_draw_of whole_of range_ok step every grown place_of places_of of_bits to_bits of_int le lt eq neg
+unfolding new_trial has_model words_taken answers_of end_of sample_of close_of discover_of serving_of active_of served_of trial_place free_place spot_for taken_count place_ok trials_once sampler_ok settings_ok candidate_of candidate_number compute_candidate_of step_of walk_of view_of training_of recent_training asked_of dimension_ok dimensions_ok columns_of whole_rows row_count recent_count recent_of recent_tests check_of bounds_of ends_of sample_random_of random_of int_random linear_int_random categorical_random from_whole shape_of int_shape int_step categorical_shape read_of checked_of int_read categorical_read whole_draw_of whole_of range_ok step every grown place_of places_of of_bits to_bits of_int le lt eq neg
 laws = (refl, refl, refl, refl, refl, refl, refl, refl, refl, refl, refl, refl, refl, refl, refl, refl)
 
 -- ---- one trial served, and put back
@@ -173,7 +173,7 @@ Servings =
     × (put refusal ≡ record { number = 11; value = ParamValue.Refused 11; drawn = 0; sampler = before })
 
 servings : Servings
-unfolding sample_of close_of discover_of serving_of active_of served_of trial_place free_place spot_for taken_count place_ok trials_once sampler_ok settings_ok candidate_of candidate_number compute_candidate_of step_of walk_of view_of training_of recent_training number_of dimension_ok dimensions_ok columns_of whole_rows row_count recent_count recent_of recent_tests refusal_of bounds_of ends_of sample_random_of random_of int_random linear_int_random categorical_random from_whole shape_of int_shape int_step categorical_shape read_of checked_of int_read categorical_read whole_draw_of whole_of range_ok step every grown place_of places_of of_bits to_bits of_int le lt eq neg
+unfolding sample_of close_of discover_of serving_of active_of served_of trial_place free_place spot_for taken_count place_ok trials_once sampler_ok settings_ok candidate_of candidate_number compute_candidate_of step_of walk_of view_of training_of recent_training asked_of dimension_ok dimensions_ok columns_of whole_rows row_count recent_count recent_of recent_tests check_of bounds_of ends_of sample_random_of random_of int_random linear_int_random categorical_random from_whole shape_of int_shape int_step categorical_shape read_of checked_of int_read categorical_read whole_draw_of whole_of range_ok step every grown place_of places_of of_bits to_bits of_int le lt eq neg
 servings = (refl, refl, refl, refl, refl, refl, refl, refl, refl, refl, refl, refl)
 
 -- two candidates and no start-up: after discovery of the int a new trial without a row asks for a fit, which has none, and its points would be the next two words
@@ -189,5 +189,5 @@ Points =
     × (point_drawn (with_word eager 1) 1 ≡ unit_of 0x100041060c011441 ∷ [])
 
 points : Points
-unfolding has_model point_drawn stream_of fit_of fit_domain all_within sample_of discover_of served_of sampler_ok settings_ok view_of training_of recent_training number_of mapped_of kept_of x_of y_of dimension_ok dimensions_ok columns_of whole_rows row_count recent_count recent_of recent_tests refusal_of bounds_of ends_of sample_random_of random_of int_random linear_int_random from_whole shape_of int_shape int_step read_of checked_of int_read whole_draw_of whole_of range_ok step every grown places_of place_ok trials_once of_bits to_bits of_int le lt eq neg
+unfolding has_model point_drawn stream_of fit_of fit_domain all_within sample_of discover_of served_of sampler_ok settings_ok view_of training_of recent_training asked_of mapped_of kept_of x_of y_of dimension_ok dimensions_ok columns_of whole_rows row_count recent_count recent_of recent_tests check_of bounds_of ends_of sample_random_of random_of int_random linear_int_random from_whole shape_of int_shape int_step read_of checked_of int_read whole_draw_of whole_of range_ok step every grown places_of place_ok trials_once of_bits to_bits of_int le lt eq neg
 points = (refl, refl, refl, refl, refl)

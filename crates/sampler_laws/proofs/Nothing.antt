@@ -11,7 +11,6 @@ use lib.ListN.{get_or, take, length-drop}
 use lib.Ieee.Bits.{is_true}
 use lib.Ieee.Fits.{and_i}
 use borrow.Author.Tests.{eq-eqb}
-use Rattle.refusal.specs.Numbers.{number_of as answer_number}
 use Rattle.arith.specs.Lists.{every}
 use Rattle.distribution.specs.declared.Distribution.{Distribution}
 use Rattle.distribution.specs.declared.ParamValue.{ParamValue}
@@ -21,13 +20,17 @@ use Rattle.common.specs.Random.{sample_random_of}
 use Rattle.history_view.specs.declared.View.{View}
 use Rattle.dimensions.specs.declared.DimensionInfo.{DimensionInfo}
 use Rattle.dimensions.specs.Dimensions.{dimension_at, dimensions_ok}
-use Rattle.param_mapping.specs.Mapping.{number_of}
+use Rattle.refusal.specs.declared.Refusal.{Refusal}
+use Rattle.refusal.specs.declared.Refusal.TheVariants.{BrokenRows}
+use Rattle.refusal.specs.Numbers.{cause_number, number_of}
+use Rattle.std.specs.Prelude.{Ok, Err}
+use Rattle.param_mapping.specs.Mapping.{asked_of}
 use Rattle.history_rows.specs.Rows.{width_of, whole_rows, row_count, recent_of, older_of}
-use Rattle.history_rows.specs.Tests.{first_of, recent_tests, refusal_of}
+use Rattle.history_rows.specs.Tests.{first_of, recent_tests, check_of}
 use Rattle.history.specs.Training.{training_of}
-use Rattle.history_view.specs.View.{view_of}
-use Rattle.history.proofs.FromArray.{training-number}
-use Rattle.history_rows.proofs.Passed.{refusal-recent}
+use Rattle.history_view.specs.View.{seen_of}
+use Rattle.history_view.proofs.Views.{view-number, seen-training}
+use Rattle.history_rows.proofs.Passed.{check-recent}
 use Rattle.history_view.proofs.Usable.{usable}
 use Rattle.settings.specs.declared.Settings.{Settings}
 use Rattle.settings.specs.Settings.{settings_ok}
@@ -64,9 +67,9 @@ stored_ok_lem (Distribution.Categorical d) (ParamValue.Refused v) r = r.taken
 -- ---- the numbers of histories
 
 -- no row is refused
-pub empty-accepted : (n : ℕ) → T (leb 1 n) → T (leb n 20) → refusal_of n [] ≡ 0
+pub empty-accepted : (n : ℕ) → T (leb 1 n) → T (leb n 20) → check_of n [] ≡ Ok tt
 empty-accepted n a b =
-    refusal-recent n [] (is_true (leb 1 n) a) (is_true (leb n 20) b) whole ∙ ap (λ (m : ℕ). first_of (recent_tests n m (recent_of n []))) none ∙ (unfold recent_tests every in refl)
+    check-recent n [] (is_true (leb 1 n) a) (is_true (leb n 20) b) whole ∙ ap (λ (m : ℕ). first_of (recent_tests n m (recent_of n []))) none ∙ (unfold recent_tests every in refl)
   where
     whole : whole_rows n [] ≡ true
     whole = unfold whole_rows in eq-eqb (0 % width_of n) 0 (zero-mod (width_of n))
@@ -84,74 +87,72 @@ module _ (s : Settings) (o : T (settings_ok s)) where
   slots-most = search parts depth 9
 
 -- numbers below 11
-abbrev Small : List (ℕ × Bool) → Type 0
+abbrev Small : List (Refusal × Bool) → Type 0
 Small [] = Unit
-Small (t ∷ ts) = (t.0 < 11) × Small ts
+Small (t ∷ ts) = (cause_number t.0 < 11) × Small ts
 
-first_small : (ts : List (ℕ × Bool)) → Small ts → first_of ts < 11
+first_small : (ts : List (Refusal × Bool)) → Small ts → number_of (first_of ts) < 11
 first_small [] h = omega arith
 first_small (t ∷ ts) h = go t.1 (first_small ts h.1)
   where
-    go : (b : Bool) → first_of ts < 11 → cond b (first_of ts) t.0 < 11
+    go : (b : Bool) → number_of (first_of ts) < 11 → number_of (cond b (first_of ts) (Err t.0)) < 11
     go true l = l
     go false l = h.0
 
 -- slots in range are never 11
-pub refusal-small : (s : Settings) (h : List ℕ) → T (settings_ok s) → refusal_of s.slots h < 11
-unfolding refusal_of recent_tests
+pub refusal-small : (s : Settings) (h : List ℕ) → T (settings_ok s) → number_of (check_of s.slots h) < 11
+unfolding check_of recent_tests
 refusal-small s h o =
     let n = s.slots in
     let a = slots-least s o in
     let b = slots-most s o in
     rw (is_true (leb 1 n) a, is_true (leb n 20) b)
-    (first_small ((3, whole_rows n h) ∷ recent_tests n (row_count n (recent_of n h)) (recent_of n h)) (omega arith, (omega arith, (omega arith, (omega arith, (omega arith, tt))))))
+    (first_small ((BrokenRows, whole_rows n h) ∷ recent_tests n (row_count n (recent_of n h)) (recent_of n h)) (omega arith, (omega arith, (omega arith, (omega arith, (omega arith, tt))))))
 
 -- ---- the facts
 
 abbrev pub InRanges : List DimensionInfo → ℕ → Proposal → Type 0
 InRanges dims k c = (c.number ≡ 0) × ((j : ℕ) → j < k → T (stored_ok (dimension_at dims j).distribution (get_or c.values j empty_stored).value))
 
-module _ (settings : Settings) (dims : List DimensionInfo) (k word : ℕ) (g : Ready settings dims k word) (h : List ℕ) (r : refusal_of settings.slots h ≡ 0) where
+module _ (settings : Settings) (dims : List DimensionInfo) (k word : ℕ) (g : Ready settings dims k word) (h : List ℕ) (r : check_of settings.slots h ≡ Ok tt) where
   abbrev view : View
-  view = view_of settings.slots settings.n_startup_trials dims k h
+  view = seen_of settings.slots settings.n_startup_trials dims k h
 
-  number : number_of settings.slots dims k h ≡ 0
-  unfolding number_of
-  number = rw (is_true (dimensions_ok dims k) g.dimensions) r
+  number : number_of (asked_of settings.slots dims k h) ≡ 0
+  unfolding asked_of
+  number = rw (is_true (dimensions_ok dims k) g.dimensions, r)
 
-  training : view.training.number ≡ 0
-  unfolding view_of
-  training = training-number settings.slots dims k h ∙ number
+  training : training_of settings.slots dims k h ≡ Ok view.training
+  training = seen-training settings.slots settings.n_startup_trials dims k h number
 
-  fit : T (leb 1 view.training.d) → T (fit_number (answer_number (fit_for view.training settings.noise_variance)))
-  unfolding view_of
+  fit : T (leb 1 view.training.d) → T (fit_number (number_of (fit_for view.training settings.noise_variance)))
   fit m =
-      let v = training_of settings.slots dims k h in
+      let v = view.training in
       fit-number (take (v.n * v.d) v.x) (take v.n v.y) v.d settings.noise_variance
-      (usable.fits settings.slots dims k h (λ j l. (g.formed j l).held) (λ j l. ((g.formed j l).lo-fits, (g.formed j l).hi-fits)) training (leb→le 1 v.d m))
+      (usable.fits settings.slots dims k h (λ j l. (g.formed j l).held) (λ j l. ((g.formed j l).lo-fits, (g.formed j l).hi-fits)) v training (leb→le 1 v.d m))
 
   -- a new trial's values are made and in range
   pub values-made : InRanges dims k (compute_candidate_of settings dims k word h)
   values-made =
-      let made = by-history settings dims k word h (is_true (settings_ok settings) g.settings-ok) (λ z. let l = g.nonzero.0 in omega arith) ∙ training in
+      let made = by-history settings dims k word h (is_true (settings_ok settings) g.settings-ok) (λ z. let l = g.nonzero.0 in omega arith) ∙ view-number settings.slots settings.n_startup_trials dims k h ∙ number in
       subst (InRanges dims k) (sym (accepted-is settings dims k word h made)) (
         candidate-number settings dims k word view,
         λ j l. stored_ok_lem (dimension_at dims j).distribution _ (candidate-ranged settings dims k word view g.nonzero (λ _. view-columns settings dims k word h number) g.formed j l),
       )
 
 -- the history that a call is served with is not refused where its own is not
-pub served-accepted : (s : Sampler) (h : List ℕ) → T (settings_ok s.settings) → refusal_of s.settings.slots h ≡ 0 → refusal_of s.settings.slots (served_history s h) ≡ 0
+pub served-accepted : (s : Sampler) (h : List ℕ) → T (settings_ok s.settings) → check_of s.settings.slots h ≡ Ok tt → check_of s.settings.slots (served_history s h) ≡ Ok tt
 served-accepted s h o r = go s.active
   where
-    go : (b : Bool) → refusal_of s.settings.slots (cond b h []) ≡ 0
+    go : (b : Bool) → check_of s.settings.slots (cond b h []) ≡ Ok tt
     go true = r
     go false = empty-accepted s.settings.slots (slots-least s.settings o) (slots-most s.settings o)
 
-module _ (s : Sampler) (g : Well s) (h : List ℕ) (r : refusal_of s.settings.slots h ≡ 0) where
+module _ (s : Sampler) (g : Well s) (h : List ℕ) (r : check_of s.settings.slots h ≡ Ok tt) where
   values_of : InRanges s.dimensions s.n_dims (compute_candidate_of s.settings s.dimensions s.n_dims s.word (served_history s h))
   values_of = values-made s.settings s.dimensions s.n_dims s.word (ready s g) (served_history s h) (served-accepted s h g.ok.settings r)
 
-  fit_of_lem : T (fit_made s h) → T (fit_number (answer_number (fit_answer s h)))
+  fit_of_lem : T (fit_made s h) → T (fit_number (number_of (fit_answer s h)))
   fit_of_lem m = fit s.settings s.dimensions s.n_dims s.word (ready s g) (served_history s h) (served-accepted s h g.ok.settings r) (search parts)
 
 pub nothing-refused : NothingRefused

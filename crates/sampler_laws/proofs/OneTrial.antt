@@ -1,4 +1,5 @@
 -- What serving one trial does, by its three ways: the generator's moves, the place after it, its number, and how it sees a history. Assumes nothing.
+use Rattle.std.specs.Prelude.{Ok}
 use Prim.Native.Nat.{ℕ, ◌+◌, ◌-◌, ◌*◌, ◌≤◌, ◌<◌}
 use native.Mathlib.Omega.{arith}
 use mathlib.Core.Path.{◌≡◌, refl, sym, subst}
@@ -21,11 +22,12 @@ use Rattle.distribution_words.specs.RoundTrip.{Held}
 use Rattle.common.proofs.Moves.{random-moves}
 use Rattle.dimensions.specs.declared.DimensionInfo.{DimensionInfo}
 use Rattle.dimensions.specs.Dimensions.{dimension_at, columns_of}
-use Rattle.history_rows.specs.Tests.{refusal_of}
-use Rattle.history_view.specs.View.{view_of}
+use Rattle.history_rows.specs.Tests.{check_of}
+use Rattle.history_view.specs.View.{view_of, seen_of}
 use Rattle.settings.specs.declared.Settings.{Settings}
 use Rattle.proposal.specs.Points.{fit_for}
-use Rattle.param_mapping.specs.Mapping.{number_of}
+use Rattle.refusal.specs.Numbers.{number_of}
+use Rattle.param_mapping.specs.Mapping.{asked_of}
 use Rattle.proposal.specs.Proposal.{candidate_number, compute_candidate_of}
 use Rattle.proposal.proofs.Moving.{compute-moves}
 use Rattle.proposal.proofs.Ranges.{random-ranged}
@@ -41,7 +43,7 @@ use Rattle.sampler_laws.proofs.Parts.{Ready}
 
 -- it sees a history only through its number and its view
 pub serving-same : (settings : Settings) (dims : List DimensionInfo) (k word : ℕ) (p : Place) (d : Distribution) (trial : ℕ) (g h : List ℕ)
-    → number_of settings.slots dims k g ≡ number_of settings.slots dims k h
+    → number_of (asked_of settings.slots dims k g) ≡ number_of (asked_of settings.slots dims k h)
     → view_of settings.slots settings.n_startup_trials dims k g ≡ view_of settings.slots settings.n_startup_trials dims k h
     → serving_of settings dims k word p d trial g ≡ serving_of settings dims k word p d trial h
 unfolding serving_of compute_candidate_of candidate_number
@@ -50,7 +52,7 @@ serving-same settings dims k word p d trial g h n v = rw (v, n)
 -- the words of a new trial's values: "the dimension count, or with a model candidates × continuous + choices"
 abbrev pub new_words : Settings → List DimensionInfo → ℕ → List ℕ → ℕ
 new_words settings dims k h =
-    let v = view_of settings.slots settings.n_startup_trials dims k h in
+    let v = seen_of settings.slots settings.n_startup_trials dims k h in
     let columns = length (columns_of dims k) in
     cond ((v.reached && leb 1 v.training.d) && is_ok (fit_for v.training settings.noise_variance)) (settings.n_candidates * columns + (k - columns)) k
 
@@ -89,7 +91,7 @@ module _ (settings : Settings) (dims : List DimensionInfo) (k word : ℕ) (p : P
       (λ t e. rw t (compute-words settings dims k word h z.1 held e))
 
   -- with the parts of a well-formed sampler it is accepted, and the place after it is in range
-  pub serving-ranged : Ready settings dims k word → 1 ≤ k → refusal_of settings.slots h ≡ 0 → (T (taken p) → T (progress_ok dims k p)) → (served.number ≡ 0) × T (progress_ok dims k served.place)
+  pub serving-ranged : Ready settings dims k word → 1 ≤ k → check_of settings.slots h ≡ Ok tt → (T (taken p) → T (progress_ok dims k p)) → (served.number ≡ 0) × T (progress_ok dims k served.place)
   serving-ranged g some r ok =
       by-serving (λ r. (r.number ≡ 0) × T (progress_ok dims k r.place)) (λ t l. (refl, further (ok (passed t)) l)) (λ t _. (refl, ok (passed t)))
       (λ _. let m = values-made settings dims k word g h r in
@@ -109,7 +111,7 @@ module _ (settings : Settings) (dims : List DimensionInfo) (k word : ℕ) (p : P
   answered = cond (taken p) (cond (ltb p.next_dim k) (dimension_at dims p.next_dim).distribution d) (dimension_at dims 0).distribution
 
   -- and the value is in its range
-  pub serving-valued : Ready settings dims k word → 1 ≤ k → refusal_of settings.slots h ≡ 0 → (T (taken p) → T (progress_ok dims k p)) → Held d → T (shape_of d) → T (stored_ok answered served.value)
+  pub serving-valued : Ready settings dims k word → 1 ≤ k → check_of settings.slots h ≡ Ok tt → (T (taken p) → T (progress_ok dims k p)) → Held d → T (shape_of d) → T (stored_ok answered served.value)
   serving-valued g some r ok held shape =
       by-serving (λ r. T (stored_ok answered r.value)) (λ t l. rw (t, lt-ltb p.next_dim k l) (inside (ok (passed t)) l))
       (λ t l. rw (t, le-ltb p.next_dim k l) (stored_ok_lem d _ (random-ranged word d g.nonzero held shape)))

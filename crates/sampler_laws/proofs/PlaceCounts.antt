@@ -1,5 +1,5 @@
 -- How many places are taken: one more after an accepted new trial, one less after an accepted close; 9 exactly when all 32 are taken and the trial has none. Assumes nothing.
-use Rattle.std.specs.Prelude.{Some}
+use Rattle.std.specs.Prelude.{Some, Result, Ok, Err}
 use Prim.Native.Nat.{ℕ, ◌+◌}
 use mathlib.Core.Path.{◌≡◌, sym, ap, ◌∙◌}
 use mathlib.Core.Bool.{Bool, true, false, not, ◌&&◌, cond, and_assoc}
@@ -8,16 +8,19 @@ use native.Mathlib.Omega.{arith}
 use lib.Dec.{T, eqb, leb}
 use lib.ListN.{length}
 use lib.Ieee.Bits.{is_true}
-use borrow.Author.Tests.{eq-eqb, ne_eqb}
+use borrow.Author.Tests.{ne_eqb}
 use Rattle.arith.proofs.Tests.{taken as passed}
 use Rattle.distribution.specs.declared.Distribution.{Distribution}
 use Rattle.dimensions.specs.declared.DimensionInfo.{DimensionInfo}
 use Rattle.history_view.specs.declared.View.{View}
 use Rattle.dimensions.specs.Dimensions.{dimensions_ok}
-use Rattle.param_mapping.specs.Mapping.{number_of}
+use Rattle.refusal.specs.declared.Refusal.{Refusal}
+use Rattle.refusal.specs.declared.Refusal.TheVariants.{BrokenRows, Objective, Slot, RepeatedId, UnequalId, OutOfDomain}
+use Rattle.refusal.specs.Numbers.{cause_number, number_of}
+use Rattle.param_mapping.specs.Mapping.{asked_of}
 use Rattle.history_rows.specs.Rows.{whole_rows}
-use Rattle.history_rows.specs.Tests.{row_ok, slots_ok, ids_once, rows_agreeing, recent_tests, refusal_of}
-use Rattle.history_view.specs.View.{view_of}
+use Rattle.history_rows.specs.Tests.{row_ok, slots_ok, ids_once, rows_agreeing, recent_tests, check_of}
+use Rattle.history_view.specs.View.{seen_of}
 use Rattle.history_rows.proofs.Passed.{every_recent}
 use Rattle.settings.specs.declared.Settings.{Settings}
 use Rattle.settings.specs.Settings.{settings_ok}
@@ -66,28 +69,32 @@ skips : (b : Bool) (rest k : ℕ) → (k ≡ 9 → ⊥) → cond b rest k ≡ 9 
 skips true rest k n e = e
 skips false rest k n e = absurd (n e)
 
-history-other : (n : ℕ) (h : List ℕ) → refusal_of n h ≡ 9 → ⊥
-unfolding refusal_of recent_tests
+skips-test : (b : Bool) (rest : Result Unit Refusal) (r : Refusal) → (cause_number r ≡ 9 → ⊥) → number_of (cond b rest (Err r)) ≡ 9 → number_of rest ≡ 9
+skips-test true rest r n e = e
+skips-test false rest r n e = absurd (n e)
+
+history-other : (n : ℕ) (h : List ℕ) → number_of (check_of n h) ≡ 9 → ⊥
+unfolding check_of recent_tests
 history-other n h e =
-    let a = skips (leb 1 n && leb n 20) _ 11 (λ z. omega arith) e in
-    let b = skips (whole_rows n h) _ 3 (λ z. omega arith) a in
-    let c = skips (every_recent n h row_ok) _ 4 (λ z. omega arith) b in
-    let d = skips (every_recent n h (slots_ok n)) _ 5 (λ z. omega arith) c in
-    let f = skips (every_recent n h (ids_once n)) _ 6 (λ z. omega arith) d in
-    let g = skips (every_recent n h (λ a. every_recent n h (rows_agreeing n a))) 0 7 (λ z. omega arith) f in
+    let a = skips-test (leb 1 n && leb n 20) _ OutOfDomain (λ z. omega arith) e in
+    let b = skips-test (whole_rows n h) _ BrokenRows (λ z. omega arith) a in
+    let c = skips-test (every_recent n h row_ok) _ Objective (λ z. omega arith) b in
+    let d = skips-test (every_recent n h (slots_ok n)) _ Slot (λ z. omega arith) c in
+    let f = skips-test (every_recent n h (ids_once n)) _ RepeatedId (λ z. omega arith) d in
+    let g = skips-test (every_recent n h (λ a. every_recent n h (rows_agreeing n a))) (Ok tt) UnequalId (λ z. omega arith) f in
     omega arith
 
 number-other : (s : Settings) (dims : List DimensionInfo) (k w : ℕ) (h : List ℕ) → candidate_number s dims k w h ≡ 9 → ⊥
-unfolding candidate_number number_of
+unfolding candidate_number asked_of
 number-other s dims k w h e =
-    history-other s.slots h (skips (dimensions_ok dims k) (refusal_of s.slots h) 11 (λ z. omega arith) (skips (settings_ok s && not (eqb w 0)) (number_of s.slots dims k h) 11 (λ z. omega arith) e))
+    history-other s.slots h (skips-test (dimensions_ok dims k) (check_of s.slots h) OutOfDomain (λ z. omega arith) (skips (settings_ok s && not (eqb w 0)) (number_of (asked_of s.slots dims k h)) 11 (λ z. omega arith) e))
 
 candidate-other : (s : Settings) (dims : List DimensionInfo) (k w : ℕ) (h : List ℕ) → (compute_candidate_of s dims k w h).number ≡ 9 → ⊥
 unfolding compute_candidate_of candidate_of
 candidate-other s dims k w h = go (eqb (candidate_number s dims k w h) 0)
   where
     v : View
-    v = view_of s.slots s.n_startup_trials dims k h
+    v = seen_of s.slots s.n_startup_trials dims k h
 
     made : (b : Bool) → (cond b (from_point dims k (point_for v.training s.noise_variance s.n_candidates w)) (at_random dims k w)).number ≡ 9 → ⊥
     made true e = omega arith
@@ -104,7 +111,7 @@ only-full s d trial h =
     nine : {n : ℕ} → Refusing s d trial h n → n ≡ 9 → (taken_count s.places ≡ 32) × (trial_place s.places trial ≡ 32)
     nine (malformed-sampler x) e = absurd (omega arith)
     nine malformed-asked e = absurd (omega arith)
-    nine (bad-history x) e = absurd (history-other s.settings.slots h e)
+    nine (bad-history r x) e = absurd (history-other s.settings.slots h (ap number_of x ∙ e))
     nine no-dimension e = absurd (omega arith)
     nine (no_place l) e = no-spot s.places trial l
     nine (no-values r p q x) e =
@@ -112,10 +119,10 @@ only-full s d trial h =
         (λ _. candidate-other s.settings s.dimensions s.n_dims s.word (served_history s h)) e)
 
 ninth : (s : Sampler) (d : Asked) (r : Distribution) (trial : ℕ) (h : List ℕ)
-    → T (sampler_ok s) → read_asked d ≡ Some r → refusal_of s.settings.slots h ≡ 0 → taken_count s.places ≡ 32 → trial_place s.places trial ≡ 32 → (call_of s (asks d trial h)).number ≡ 9
+    → T (sampler_ok s) → read_asked d ≡ Some r → check_of s.settings.slots h ≡ Ok tt → taken_count s.places ≡ 32 → trial_place s.places trial ≡ 32 → (call_of s (asks d trial h)).number ≡ 9
 unfolding sample_of served_of active_of
 ninth s d r trial h ok e n c p =
-    rw (is_true (sampler_ok s) ok, e, eq-eqb (refusal_of s.settings.slots h) 0 n, taken-active s ok 0 (omega arith) (passed (all-taken s.places c 0 (omega arith))), full-no-spot s.places trial c p)
+    rw (is_true (sampler_ok s) ok, e, n, taken-active s ok 0 (omega arith) (passed (all-taken s.places c 0 (omega arith))), full-no-spot s.places trial c p)
 
 pub places-counted : PlacesCounted
 unfolding new_trial

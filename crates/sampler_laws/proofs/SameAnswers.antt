@@ -6,7 +6,8 @@ use mathlib.Core.List.{List, ◌∷◌}
 use Rattle.distribution.specs.declared.Distribution.{Distribution}
 use Rattle.distribution.specs.declared.ParamValue.{ParamValue}
 use Rattle.history_view.specs.Agree.{Agree}
-use Rattle.param_mapping.specs.Mapping.{number_of}
+use Rattle.refusal.specs.Numbers.{number_of}
+use Rattle.param_mapping.specs.Mapping.{asked_of as mapping_asked}
 use Rattle.history_view.proofs.Order.{order-free}
 use Rattle.settings.specs.declared.Settings.{Settings}
 use Rattle.sampler_state.specs.declared.Sampler.{Sampler}
@@ -27,8 +28,8 @@ module _ (s : Sampler) (g h : List ℕ) (a : Agree s.settings.slots s.settings.n
   abbrev startup : ℕ
   startup = s.settings.n_startup_trials
 
-  number_same : number_of n s.dimensions s.n_dims g ≡ number_of n s.dimensions s.n_dims h
-  unfolding number_of
+  number_same : number_of (mapping_asked n s.dimensions s.n_dims g) ≡ number_of (mapping_asked n s.dimensions s.n_dims h)
+  unfolding mapping_asked
   number_same = rw (order-free.refusal n startup g h a)
 
   active-same : (d : Distribution) (trial : ℕ) → active_of s d trial g ≡ active_of s d trial h

@@ -1,5 +1,5 @@
 -- How a call is answered: its tests in their order, walked once for every law about calls. Assumes nothing.
-use Rattle.std.specs.Prelude.{Option, Some, None}
+use Rattle.std.specs.Prelude.{Option, Some, None, Result, Ok, Err}
 use Prim.Native.Nat.{ℕ, ◌≤◌, ◌<◌}
 use native.Mathlib.Omega.{arith}
 use mathlib.Core.Path.{◌≡◌, refl, sym, ap, ◌∙◌, subst}
@@ -12,13 +12,16 @@ use Rattle.arith.proofs.Tests.{taken, by-test}
 use Rattle.distribution.specs.declared.Distribution.{Distribution}
 use Rattle.distribution_words.specs.Words.{read_of}
 use Rattle.common.specs.Random.{sample_random_of}
-use Rattle.history_rows.specs.Tests.{refusal_of}
+use Rattle.refusal.specs.declared.Refusal.{Refusal}
+use Rattle.refusal.specs.Numbers.{cause_number}
+use Rattle.history_view.proofs.Views.{cause-some}
+use Rattle.history_rows.specs.Tests.{check_of}
 use Rattle.sampler_state.specs.declared.Sampler.{Sampler}
 use Rattle.sampler_state.specs.State.{trial_place, sampler_ok}
 use Rattle.sampler_state.proofs.Checked.{dimensions-few}
 use Rattle.sampler_laws.specs.declared.Sampled.{Sampled}
 use Rattle.sampler_laws.specs.declared.Serving.{Serving}
-use Rattle.sampler_laws.specs.Calls.{refused_of, with_dimension, activated, drawn_of, written_of, discover_of, serving_for, spot_of, active_of, unless_refused, served_of, asked_of, sample_of, freed_of, close_of}
+use Rattle.sampler_laws.specs.Calls.{refused_of, with_dimension, activated, drawn_of, written_of, discover_of, serving_for, spot_of, active_of, unless_refused, served_of, tested_of, asked_of, sample_of, freed_of, close_of}
 use Rattle.sampler_laws.specs.NewTrials.{past_discovery, served_history}
 use Rattle.sampler_laws.specs.Runs.{Asked, asks, call_of}
 
@@ -31,7 +34,7 @@ read_asked d = read_of d.kind d.low d.high d.log d.stepped d.step
 pub record Passed (s : Sampler) (d : Asked) (h : List ℕ) (r : Distribution) : Type 0 where
   pub ok : T (sampler_ok s)
   pub read : read_asked d ≡ Some r
-  pub history : refusal_of s.settings.slots h ≡ 0
+  pub history : check_of s.settings.slots h ≡ Ok tt
 
 -- an active sampler is itself with its discovery ended
 pub is-activated : (s : Sampler) → s.active ≡ true → activated s ≡ s
@@ -53,7 +56,7 @@ discovering s trial = go s.active
 pub data Refusing (s : Sampler) (d : Asked) (trial : ℕ) (h : List ℕ) : ℕ → Type 0 where
   malformed-sampler : sampler_ok s ≡ false → Refusing s d trial h 11
   malformed-asked : Refusing s d trial h 2
-  bad-history : (refusal_of s.settings.slots h ≡ 0 → ⊥) → Refusing s d trial h (refusal_of s.settings.slots h)
+  bad-history : (r : Refusal) → check_of s.settings.slots h ≡ Err r → Refusing s d trial h (cause_number r)
   no-dimension : Refusing s d trial h 8
   no_place : 32 ≤ spot_of s trial → Refusing s d trial h 9
   no-values : (r : Distribution) → Passed s d h r → past_discovery s trial ≡ true → ((served_now s r trial h).number ≡ 0 → ⊥) → Refusing s d trial h (served_now s r trial h).number
@@ -61,7 +64,7 @@ pub data Refusing (s : Sampler) (d : Asked) (trial : ℕ) (h : List ℕ) : ℕ �
 pub refusing-some : {s : Sampler} {d : Asked} {trial : ℕ} {h : List ℕ} {n : ℕ} → Refusing s d trial h n → n ≡ 0 → ⊥
 refusing-some (malformed-sampler e) z = omega arith
 refusing-some malformed-asked z = omega arith
-refusing-some (bad-history x) z = x z
+refusing-some (bad-history r x) z = cause-some r z
 refusing-some no-dimension z = omega arith
 refusing-some (no_place l) z = omega arith
 refusing-some (no-values r p q x) z = x z
@@ -138,9 +141,11 @@ module _ (s : Sampler) (d : Asked) (trial : ℕ) (h : List ℕ) (P : Sampled →
     where
       asked : T (sampler_ok s) → (x : Option Distribution) → read_asked d ≡ x → P (asked_of s x trial h)
       asked o None q = no 2 malformed-asked
-      asked o (Some r) q =
-          let n = refusal_of s.settings.slots h in
-          by-test P (eqb n 0) _ _ (λ z. served r (record { ok = o; read = q; history = eqb-true n 0 z })) (λ z. no n (bad-history (eqb-false n 0 z)))
+      asked o (Some r) q = tested (check_of s.settings.slots h) refl
+        where
+          tested : (x : Result Unit Refusal) → check_of s.settings.slots h ≡ x → P (tested_of s x (served_of s r trial h))
+          tested (Ok u) z = served r (record { ok = o; read = q; history = z })
+          tested (Err e) z = no (cause_number e) (bad-history e z)
 
 -- ---- a close
 

@@ -2,7 +2,8 @@
 use Prim.Native.Nat.{ℕ, ◌^◌, ◌<◌}
 use native.Mathlib.Nat.{not-suc-le-zero}
 use native.Mathlib.Omega.{arith}
-use mathlib.Core.Path.{◌≡◌, refl, sym, subst}
+use Rattle.refusal.specs.Numbers.{number_of}
+use mathlib.Core.Path.{◌≡◌, refl, sym, ap, subst}
 use mathlib.Core.Bool.{Bool, true, false, not, ◌||◌, true≢false}
 use mathlib.Core.List.{List, [], ◌∷◌}
 use mathlib.Core.Logic.{inl, inr}
@@ -87,7 +88,7 @@ module _ (s : Sampler) (g : Well s) where
     not-11 : {n : ℕ} → Refusing s d trial h n → n ≡ 11 → ⊥
     not-11 (malformed-sampler x) e = T_not (sampler_ok s) (untaken x) (parts-ok s g.ok)
     not-11 malformed-asked e = omega arith
-    not-11 (bad-history x) e = let l = refusal-small s.settings h g.ok.settings in omega arith
+    not-11 (bad-history r x) e = let l = refusal-small s.settings h g.ok.settings in let n = ap number_of x in omega arith
     not-11 no-dimension e = omega arith
     not-11 (no_place l) e = omega arith
     not-11 (no-values r p past x) e = x (served r p past).0

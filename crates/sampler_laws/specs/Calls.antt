@@ -1,5 +1,5 @@
 -- The two calls, `sample` and `close`, as one definition each. `Sampler::sample` of gp.rs is the reference; `close` is added. Definitions only.
-use Rattle.std.specs.Prelude.{ℕ, ◌+◌, true, ◌||◌, cond, List, [], eqb, ltb, set, Option, Some, None}
+use Rattle.std.specs.Prelude.{ℕ, ◌+◌, true, ◌||◌, cond, List, [], eqb, ltb, set, Option, Some, None, Result, Ok, Err}
 use Rattle.distribution.specs.declared.Distribution.{Distribution}
 use Rattle.distribution.specs.declared.ParamValue.{ParamValue}
 use Rattle.distribution_words.specs.Words.{read_of}
@@ -8,7 +8,9 @@ use Rattle.common.specs.Random.{sample_random_of}
 use Rattle.settings.specs.declared.Settings.{Settings}
 use Rattle.dimensions.specs.declared.DimensionInfo.{DimensionInfo}
 use Rattle.dimensions.specs.Dimensions.{dimension_of}
-use Rattle.history_rows.specs.Tests.{refusal_of}
+use Rattle.refusal.specs.Numbers.{cause_number}
+use Rattle.refusal.specs.declared.Refusal.{Refusal}
+use Rattle.history_rows.specs.Tests.{check_of}
 use Rattle.proposal.specs.declared.Proposal.{Proposal}
 use Rattle.proposal.specs.Proposal.{compute_candidate_of}
 use Rattle.sampler_state.specs.declared.Place.{Place}
@@ -112,10 +114,15 @@ served_of s d trial h =
 
 -- ---- the calls
 
+-- an answer where the history passes its tests, else its refusal
+abbrev pub tested_of : Sampler → Result Unit Refusal → Sampled → Sampled
+tested_of s (Ok u) r = r
+tested_of s (Err cause) r = refused_of s (cause_number cause)
+
 -- "asked distribution malformed 2", then the history's number
 abbrev pub asked_of : Sampler → Option Distribution → ℕ → List ℕ → Sampled
 asked_of s None trial h = refused_of s 2
-asked_of s (Some d) trial h = cond (eqb (refusal_of s.settings.slots h) 0) (served_of s d trial h) (refused_of s (refusal_of s.settings.slots h))
+asked_of s (Some d) trial h = tested_of s (check_of s.settings.slots h) (served_of s d trial h)
 
 unfoldable pub sample_of : Sampler → ℕ → ℕ → ℕ → ℕ → ℕ → ℕ → ℕ → List ℕ → Sampled
 unfolding sampler_ok served_of

@@ -1,5 +1,5 @@
 -- What is promised of the calls, for every sampler and every run. Statements only, proved in proofs/.
-use Rattle.std.specs.Prelude.{ℕ, ◌+◌, ◌*◌, ◌^◌, ◌<◌, ◌≡◌, Bool, true, ◌&&◌, ◌||◌, cond, List, T, eqb, ltb, length, Some}
+use Rattle.std.specs.Prelude.{ℕ, ◌+◌, ◌*◌, ◌^◌, ◌<◌, ◌≡◌, Bool, true, ◌&&◌, ◌||◌, cond, List, T, eqb, ltb, length, Some, Ok}
 use Rattle.std.specs.Float.{binary64}
 use Rattle.std.specs.Float.Ieee.{fits}
 use Rattle.refusal.specs.Numbers.{number_of}
@@ -10,7 +10,7 @@ use Rattle.distribution.specs.Shape.{shape_of}
 use Rattle.distribution_words.specs.Words.{read_of}
 use Rattle.common.specs.Random.{sample_random_of}
 use Rattle.dimensions.specs.Dimensions.{dimension_at}
-use Rattle.history_rows.specs.Tests.{refusal_of}
+use Rattle.history_rows.specs.Tests.{check_of}
 use Rattle.settings.specs.declared.Settings.{Settings}
 use Rattle.settings.specs.Settings.{settings_ok}
 use Rattle.proposal.specs.Proposal.{compute_candidate_of}
@@ -70,9 +70,9 @@ pub record WellFormed : Type 0 where
 -- inside a call with a history that is not refused
 pub record NothingRefused : Type 0 where
   -- a fit is refused only with 12 or 13
-  pub fit : (s : Sampler) (h : List ℕ) → Typed s → T (sampler_ok s) → refusal_of s.settings.slots h ≡ 0 → T (fit_made s h) → T (eqb (number_of (fit_answer s h)) 0 || eqb (number_of (fit_answer s h)) 12 || eqb (number_of (fit_answer s h)) 13)
+  pub fit : (s : Sampler) (h : List ℕ) → Typed s → T (sampler_ok s) → check_of s.settings.slots h ≡ Ok tt → T (fit_made s h) → T (eqb (number_of (fit_answer s h)) 0 || eqb (number_of (fit_answer s h)) 12 || eqb (number_of (fit_answer s h)) 13)
   -- a new trial's values are made and in range: no decoding and no draw is refused, nor an exp or ln in it
-  pub values : (s : Sampler) (h : List ℕ) → Typed s → T (sampler_ok s) → refusal_of s.settings.slots h ≡ 0
+  pub values : (s : Sampler) (h : List ℕ) → Typed s → T (sampler_ok s) → check_of s.settings.slots h ≡ Ok tt
       → let c = compute_candidate_of s.settings s.dimensions s.n_dims s.word (served_history s h) in
       let p : Place = record { taken = true; trial = 0; values = c.values; next_dim = 1 } in
       (c.number ≡ 0)
@@ -92,5 +92,5 @@ pub record PlacesCounted : Type 0 where
   -- 9 exactly when 32 are taken and the trial has none
   pub full : (s : Sampler) (d : Asked) (trial : ℕ) (h : List ℕ) → (call_of s (asks d trial h)).number ≡ 9 → (taken_count s.places ≡ 32) × (trial_place s.places trial ≡ 32)
   pub ninth : (s : Sampler) (d : Asked) (r : Distribution) (trial : ℕ) (h : List ℕ)
-      → T (sampler_ok s) → read_of d.kind d.low d.high d.log d.stepped d.step ≡ Some r → refusal_of s.settings.slots h ≡ 0
+      → T (sampler_ok s) → read_of d.kind d.low d.high d.log d.stepped d.step ≡ Some r → check_of s.settings.slots h ≡ Ok tt
       → taken_count s.places ≡ 32 → trial_place s.places trial ≡ 32 → (call_of s (asks d trial h)).number ≡ 9

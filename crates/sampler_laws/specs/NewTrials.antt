@@ -11,7 +11,7 @@ use Rattle.gp_model.specs.declared.Model.{Model}
 use Rattle.search.specs.Search.{score_of}
 use Rattle.history_view.specs.declared.View.{View}
 use Rattle.dimensions.specs.Dimensions.{dimension_at, columns_of}
-use Rattle.history_view.specs.View.{view_of}
+use Rattle.history_view.specs.View.{seen_of}
 use Rattle.proposal.specs.Points.{fit_for}
 use Rattle.proposal.specs.Values.{decode_of}
 use Rattle.sampler_state.specs.declared.Sampler.{Sampler}
@@ -38,7 +38,7 @@ abbrev pub served_history : Sampler → List ℕ → List ℕ
 served_history s h = cond s.active h []
 
 abbrev pub view_for : Sampler → List ℕ → View
-view_for s h = view_of s.settings.slots s.settings.n_startup_trials s.dimensions s.n_dims (served_history s h)
+view_for s h = seen_of s.settings.slots s.settings.n_startup_trials s.dimensions s.n_dims (served_history s h)
 
 -- new trials "fit a model if a dimension is continuous and rows ≥ start-up"; training data that are not refused have a column for each continuous dimension
 abbrev pub fit_made : Sampler → List ℕ → Bool

@@ -46,7 +46,7 @@ fn advance(m: Lent, start: Search, candidates: u64) -> Search
 {
     let mut s = start;
     let mut i = 0;
-    // Kept: a turn takes up to eight, and `(0..candidates).step_by(8)` would have to pass `u64::MAX` in its last step.
+    // Kept: a turn takes up to eight of any u64; a `step_by(8)` owes a proof that no step passes u64::MAX, which is false.
     while i < candidates {
         let k = (candidates - i).min(8);
         s = eights::some_candidates(m, s, k as usize);

@@ -8,7 +8,7 @@ use lib.Ieee.{Float}
 use Rattle.arith.proofs.Tests.{taken}
 use Rattle.distribution.specs.declared.Distribution.{Distribution}
 use Rattle.distribution.specs.Shape.{shape_of}
-use Rattle.encoding.specs.Bounds.{InternalBounds, bounds_of, ends_of}
+use Rattle.encoding.specs.Bounds.{bounds_of, ends_of}
 use Rattle.common.specs.Decode.{inside, from_internal_of}
 use Rattle.common.proofs.Domain.{decodable}
 use Rattle.common.proofs.decode.from_internal.Goals as goal

@@ -1,33 +1,37 @@
 -- `history::building::build_training_data` meets its contract. Assumes nothing.
 use mathlib.Core.Path.{◌≡◌, refl, sym, ap, ◌∙◌}
 use native.Mathlib.Omega.{arith}
-use borrow.Author.Tests.{ne_eqb}
+use Rattle.std.specs.Prelude.{None, Ok}
+use Rattle.std.proofs.lemmas.Result.{err_from_is_err_and}
 use Rattle.arith.specs.Lists.{filled}
 use Rattle.history_rows.specs.Rows.{row_at, recent_of}
 use Rattle.history_rows.proofs.Recent.{recent-few, recent-part, recent-whole}
-use Rattle.param_mapping.specs.declared.Mapping.{Mapping}
-use Rattle.param_mapping.specs.Mapping.{none, mapped_of, number_of}
-use Rattle.param_mapping.proofs.Opened.{Recent, recent, mapping-number, mapping-ids}
+use Rattle.param_mapping.specs.Mapping.{mapped_of, asked_of}
+use Rattle.param_mapping.proofs.Opened.{Recent, recent, mapping-accepted, mapping-refused}
 use Rattle.history.specs.Training.{recent_training, training_of}
 use Rattle.history.proofs.FromArray.{training-is}
 use Rattle.history.proofs.building.build_training_data.Goals as goal
-use Rattle.history.proofs.building.build_training_data.Goals.{After-establish_param_mapping-mapping, After-recent_part-recent}
+use Rattle.history.proofs.building.build_training_data.Goals.{After-recent_part-recent}
 
--- the mapping's number is the call's
-number : (c : After-establish_param_mapping-mapping) → c.establish_param_mapping-mapping.result.number ≡ (let a = c.args in number_of a.slots a.dims a.k a.h.now)
-number c =
+-- the mapping's answer
+accepted : (c : After-recent_part-recent) → let a = c.args in
+    (asked_of a.slots a.dims a.k a.h.now ≡ Ok tt) × (c.in_ok-mapping.mapping ≡ filled None 20 (mapped_of a.slots a.dims a.k (row_at a.slots (recent_of a.slots a.h.now) 0)))
+accepted c =
     let a = c.args in
-    ap (λ (m : Mapping). m.number) c.establish_param_mapping-mapping.ensures ∙ mapping-number a.slots a.dims a.k a.h.now
+    mapping-accepted a.slots a.dims a.k a.h.now c.in_ok-mapping.mapping (sym c.establish_param_mapping.ensures ∙ c.in_ok-mapping.was)
 
-pub returns-then-mapping-ne0 : goal.returns-then-mapping-ne0
+pub returns-in_err-mapping : goal.returns-in_err-mapping
 unfolding training_of
-returns-then-mapping-ne0 c = rw (sym (number (goal.at.returns-then-mapping-ne0 c).After-establish_param_mapping-mapping), ne_eqb c.establish_param_mapping-mapping.result.number 0 c.if-mapping-ne0.true) c.refused.ensures
+returns-in_err-mapping c =
+    let a = c.args in
+    let p = err_from_is_err_and c.from_residual.result c.from_residual.ensures.1 in
+    rw (p.1, p.2, mapping-refused a.slots a.dims a.k a.h.now _ (sym c.establish_param_mapping.ensures ∙ c.in_err-mapping.was))
 
 -- what is known of a history that is not refused, and of its recent rows
 known : (c : After-recent_part-recent) → let a = c.args in Recent a.slots a.k a.h.now c.recent_part-recent.result
 known c =
     let a = c.args in
-    recent a.slots a.dims a.k a.h.now c.recent_part-recent.result (sym (ap (λ (m : Mapping). m.number) c.establish_param_mapping-mapping.ensures ∙ mapping-number a.slots a.dims a.k a.h.now) ∙ c.if-mapping-ne0.false) c.recent_part-recent.ensures
+    recent a.slots a.dims a.k a.h.now c.recent_part-recent.result (accepted c).0 c.recent_part-recent.ensures
 
 pub offset_bounds-h-recent : goal.offset_bounds-h-recent
 offset_bounds-h-recent c = let l = (known (goal.at.offset_bounds-h-recent c).After-recent_part-recent).inside in omega arith
@@ -49,14 +53,11 @@ pub recent_training-requires : goal.recent_training-requires
 recent_training-requires c =
     let k = known (goal.at.recent_training-requires c).After-recent_part-recent in
     let a = c.args in
-    let ids : c.establish_param_mapping-mapping.result.ids ≡ filled none 20 (mapped_of a.slots a.dims a.k (row_at a.slots (recent_of a.slots a.h.now) 0)) =
-    ap (λ (m : Mapping). m.ids) c.establish_param_mapping-mapping.ensures ∙ mapping-ids a.slots a.dims a.k a.h.now (sym (number (goal.at.recent_training-requires c).After-establish_param_mapping-mapping) ∙ c.if-mapping-ne0.false) in
     rw (recent-part a.slots a.h.now c.recent_part-recent.result.start k.start, k.rows)
-    (k.few, refl, ids)
+    (k.few, refl, (accepted (goal.at.recent_training-requires c).After-recent_part-recent).1)
 
 pub returns : goal.returns
 returns c =
     let a = c.args in
-    c.recent_training.ensures
-    ∙ ap (recent_training a.slots a.dims a.k) (recent-part a.slots a.h.now c.recent_part-recent.result.start (known (goal.at.returns c).After-recent_part-recent).start)
-    ∙ sym (training-is a.slots a.dims a.k a.h.now (sym (number (goal.at.returns c).After-establish_param_mapping-mapping) ∙ c.if-mapping-ne0.false))
+    ap Ok (c.recent_training.ensures ∙ ap (recent_training a.slots a.dims a.k) (recent-part a.slots a.h.now c.recent_part-recent.result.start (known (goal.at.returns c).After-recent_part-recent).start))
+    ∙ sym (training-is a.slots a.dims a.k a.h.now (accepted (goal.at.returns c).After-recent_part-recent).0)

@@ -3,24 +3,27 @@ use Prim.Native.Nat.{ℕ}
 use mathlib.Core.Path.{◌≡◌, sym, ap, ◌∙◌}
 use mathlib.Core.List.{List}
 use native.Mathlib.Omega.{arith}
-use borrow.Author.Tests.{eq-eqb, ne_eqb}
+use Rattle.std.proofs.lemmas.Result.{err_from_is_err_and}
 use Rattle.param_mapping.proofs.Opened.{Recent, recent}
 use Rattle.history_rows.proofs.Recent.{recent-part, recent-whole}
 use Rattle.arith.specs.Lists.{filled}
-use Rattle.param_mapping.specs.Mapping.{none, mapped_of, mapping_of}
+use Rattle.std.specs.Prelude.{None}
+use Rattle.param_mapping.specs.Mapping.{mapped_of, mapping_of}
 use Rattle.history_rows.specs.Rows.{row_at, recent_of}
 use Rattle.param_mapping.proofs.matching.establish_param_mapping.Goals as goal
 use Rattle.param_mapping.proofs.matching.establish_param_mapping.Goals.{After-recent_part-recent}
 
-pub returns-then-number-ne0 : goal.returns-then-number-ne0
+pub returns-in_err-check : goal.returns-in_err-check
 unfolding mapping_of
-returns-then-number-ne0 c = rw (sym c.number-number.ensures, ne_eqb c.number-number.result 0 c.if-number-ne0.true)
+returns-in_err-check c =
+    let p = err_from_is_err_and c.from_residual.result c.from_residual.ensures.1 in
+    rw (p.1, p.2, sym c.check.ensures, c.in_err-check.was)
 
 -- what is known of a history that is not refused, and of its recent rows
 known : (c : After-recent_part-recent) → let a = c.args in Recent a.slots a.k a.h.now c.recent_part-recent.result
 known c =
     let a = c.args in
-    recent a.slots a.dims a.k a.h.now c.recent_part-recent.result (sym c.number-number.ensures ∙ c.if-number-ne0.false) c.recent_part-recent.ensures
+    recent a.slots a.dims a.k a.h.now c.recent_part-recent.result (sym c.check.ensures ∙ c.in_ok-check.was) c.recent_part-recent.ensures
 
 pub offset_bounds-h-start : goal.offset_bounds-h-start
 offset_bounds-h-start c = let l = (known (goal.at.offset_bounds-h-start c).After-recent_part-recent).inside in omega arith
@@ -41,6 +44,6 @@ pub returns : goal.returns
 unfolding mapping_of
 returns c =
     let a = c.args in
-    let e : c.recent_mapping-ids.result ≡ filled none 20 (mapped_of a.slots a.dims a.k (row_at a.slots (recent_of a.slots a.h.now) 0)) =
-    c.recent_mapping-ids.ensures ∙ ap (λ (r : List ℕ). filled none 20 (mapped_of a.slots a.dims a.k (row_at a.slots r 0))) (recent-part a.slots a.h.now c.recent_part-recent.result.start (known (goal.at.returns c).After-recent_part-recent).start) in
-    rw (sym c.number-number.ensures, eq-eqb c.number-number.result 0 c.if-number-ne0.false, e)
+    let e : c.recent_mapping-ids.result ≡ filled None 20 (mapped_of a.slots a.dims a.k (row_at a.slots (recent_of a.slots a.h.now) 0)) =
+    c.recent_mapping-ids.ensures ∙ ap (λ (r : List ℕ). filled None 20 (mapped_of a.slots a.dims a.k (row_at a.slots r 0))) (recent-part a.slots a.h.now c.recent_part-recent.result.start (known (goal.at.returns c).After-recent_part-recent).start) in
+    rw (sym c.check.ensures, c.in_ok-check.was, e)

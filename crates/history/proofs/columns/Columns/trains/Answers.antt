@@ -1,4 +1,5 @@
 -- `history::columns::Columns::trains` meets its contract. Assumes nothing.
+use Rattle.std.specs.Prelude.{None}
 use Prim.Native.Nat.{ℕ, ◌<◌}
 use mathlib.Core.Path.{◌∙◌}
 use lib.ListN.{get_or}
@@ -9,7 +10,6 @@ use Rattle.std.proofs.lemmas.Iterator.Adapters.{serves_from_places}
 use Rattle.std.proofs.lemmas.Iterator.Search.{all_from_yields_List}
 use native.Mathlib.Omega.{arith}
 use Rattle.arith.proofs.Passing.{all_every}
-use Rattle.param_mapping.specs.Mapping.{none}
 use Rattle.history.specs.Training.{covers_of, trains_of}
 use Rattle.history.proofs.columns.Columns.trains.Goals as goal
 
@@ -25,6 +25,6 @@ unfolding trains_of
 returns c =
     let row = c.args.row.now in
     let s = c.args.self.now in
-    let test = λ (j : ℕ). covers_of row.slots row.words.now (get_or s.mapping.now j none) in
+    let test = λ (j : ℕ). covers_of row.slots row.words.now (get_or s.mapping.now j None) in
     all_from_yields_List test _ _ c.all.result c.all.ensures.ran (YieldsList-from_slice s.places.now cc) (λ x b q k. search (rules, tests))
     ∙ all_every test s.places.now 0 _ refl

@@ -1,39 +1,30 @@
 -- `history::rows::Row::slot` meets its contract. Assumes nothing.
 use Prim.Native.Nat.{◌+◌, ◌*◌, ◌<◌}
-use mathlib.Core.Path.{◌≡◌, ◌∙◌}
 use native.Mathlib.Omega.{arith}
-use Rattle.history_rows.specs.Slots.{slot_with}
-use Rattle.history_rows.proofs.Border.{place-with}
 use Rattle.history_rows.proofs.Parts.{part, lent_length}
 use Rattle.history.proofs.rows.Row.slot.Goals as goal
-use Rattle.history.proofs.rows.Row.slot.Goals.{After-slot_place-s}
+use Rattle.history.proofs.rows.Row.slot.Goals.{After-place-s}
 
--- the place is that of a slot
-found : (c : After-slot_place-s) → let row = c.args.self.now in c.slot_place-s.result ≡ slot_with row.slots row.words.now c.args.id
-found c =
-    let row = c.args.self.now in
-    c.slot_place-s.ensures ∙ place-with row.slots row.words.now c.args.id row.narrow row.whole
-
-below : (c : After-slot_place-s) → c.slot_place-s.result < c.args.self.now.slots
-below c = let e = found c in omega arith
+below : (c : After-place-s) → c.place-s.result < c.args.self.now.slots
+below c = let e = c.place-s.ensures in let l = c.requires in omega arith
 
 pub overflow_mul-at : goal.overflow_mul-at
-overflow_mul-at c = let l = below (goal.at.overflow_mul-at c).After-slot_place-s in omega arith
+overflow_mul-at c = let l = below (goal.at.overflow_mul-at c).After-place-s in omega arith
 
 pub overflow_add-at : goal.overflow_add-at
-overflow_add-at c = let l = below (goal.at.overflow_add-at c).After-slot_place-s in omega arith
+overflow_add-at c = let l = below (goal.at.overflow_add-at c).After-place-s in omega arith
 
 pub overflow_add-result : goal.overflow_add-result
-overflow_add-result c = let l = below (goal.at.overflow_add-result c).After-slot_place-s in omega arith
+overflow_add-result c = let l = below (goal.at.overflow_add-result c).After-place-s in omega arith
 
 pub offset_bounds-self-at : goal.offset_bounds-self-at
-offset_bounds-self-at c = let l = below (goal.at.offset_bounds-self-at c).After-slot_place-s in omega arith
+offset_bounds-self-at c = let l = below (goal.at.offset_bounds-self-at c).After-place-s in omega arith
 
 pub slice_bounds-result-end : goal.slice_bounds-result-end
-slice_bounds-result-end c = let l = below (goal.at.slice_bounds-result-end c).After-slot_place-s in omega arith
+slice_bounds-result-end c = let l = below (goal.at.slice_bounds-result-end c).After-place-s in omega arith
 
 pub returns : goal.returns
 returns c =
-    let l = below (goal.at.returns c).After-slot_place-s in
-    let at = 3 + 8 * c.slot_place-s.result in
-    (rw (part 8 c.args.self.now.words.now at, found (goal.at.returns c).After-slot_place-s), lent_length 8 c.args.self.now.words.now at (omega arith))
+    let l = below (goal.at.returns c).After-place-s in
+    let at = 3 + 8 * c.place-s.result in
+    (rw (part 8 c.args.self.now.words.now at, c.place-s.ensures), lent_length 8 c.args.self.now.words.now at (omega arith))

@@ -1,25 +1,25 @@
--- `history_rows::tests::refusal` meets its contract. Assumes nothing.
+-- `history_rows::tests::check` meets its contract. Assumes nothing.
 use mathlib.Core.Path.{sym, ◌∙◌}
 use native.Mathlib.Omega.{arith}
 use lib.Ieee.Fits.{eq→eqb}
 use borrow.Author.Tests.{le-leb, lt-leb, ne_eqb, eq-eqb}
 use Rattle.history_rows.specs.Rows.{whole_rows}
-use Rattle.history_rows.specs.Tests.{refusal_of}
-use Rattle.history_rows.proofs.Passed.{refusal-recent}
+use Rattle.history_rows.specs.Tests.{check_of}
+use Rattle.history_rows.proofs.Passed.{check-recent}
 use Rattle.history_rows.proofs.Recent.{older-inside, recent-part, recent-whole}
 use borrow.Author.Rules.{rules}
-use Rattle.history_rows.proofs.tests.refusal.Goals as goal
-use Rattle.history_rows.proofs.tests.refusal.Goals.{then-slots-lt1-via-then-slots-lt1, then-slots-lt1-via-else-slots-lt1+then-slots-gt20}
+use Rattle.history_rows.proofs.tests.check.Goals as goal
+use Rattle.history_rows.proofs.tests.check.Goals.{then-slots-lt1-via-then-slots-lt1, then-slots-lt1-via-else-slots-lt1+then-slots-gt20}
 
 pub returns-then-slots-lt1 : goal.returns-then-slots-lt1
-unfolding refusal_of
+unfolding check_of
 returns-then-slots-lt1 c = elim c.then-slots-lt1.branch [
   | then-slots-lt1-via-then-slots-lt1 w ↦ rw (lt-leb 1 _ w.if-slots-lt1.true)
   | then-slots-lt1-via-else-slots-lt1+then-slots-gt20 w ↦ rw (le-leb 1 _ w.if-slots-lt1.false, lt-leb _ 20 w.if-slots-gt20.true)
 ]
 
 pub returns-then-h-slots-ne0 : goal.returns-then-h-slots-ne0
-unfolding refusal_of whole_rows
+unfolding check_of whole_rows
 returns-then-h-slots-ne0 c = rw (le-leb 1 _ c.if-slots-lt1.false, le-leb _ 20 c.if-slots-gt20.false, ne_eqb _ _ c.if-h-slots-ne0.true)
 
 pub offset_bounds-h-start : goal.offset_bounds-h-start
@@ -54,6 +54,6 @@ invariant_of-recent c =
 pub returns : goal.returns
 returns c =
     let a = c.args in
-    c.refusal.ensures
+    c.check.ensures
     ∙ rw (recent-part a.slots a.h.now c.older-start.result c.older-start.ensures)
-    (sym (refusal-recent a.slots a.h.now (le-leb 1 _ c.if-slots-lt1.false) (le-leb _ 20 c.if-slots-gt20.false) (unfold whole_rows in eq-eqb _ _ c.if-h-slots-ne0.false)))
+    (sym (check-recent a.slots a.h.now (le-leb 1 _ c.if-slots-lt1.false) (le-leb _ 20 c.if-slots-gt20.false) (unfold whole_rows in eq-eqb _ _ c.if-h-slots-ne0.false)))

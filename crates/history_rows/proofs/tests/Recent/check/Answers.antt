@@ -1,4 +1,4 @@
--- `history_rows::tests::Recent::refusal` meets its contract. Assumes nothing.
+-- `history_rows::tests::Recent::check` meets its contract. Assumes nothing.
 use Rattle.std.proofs.Common.{◌≡◌, ℕ, List, not, take, arith, rules, tests, refl, sym, ◌∙◌}
 use Rattle.std.specs.List.{list_all, enumerate_from}
 use Rattle.std.proofs.lemmas.Iterator.Search.{all_from_yields_List}
@@ -11,8 +11,8 @@ use Rattle.history_rows.specs.Rows.{width_of, row_count, row_at}
 use Rattle.history_rows.specs.Tests.{row_ok, slots_ok, ids_once, rows_agreeing, recent_tests}
 use Rattle.history_rows.proofs.First.{likes-are-pairs}
 use Rattle.history_rows.proofs.Parts.{rows_all, slots_all, ids_same}
-use Rattle.history_rows.proofs.tests.Recent.refusal.Goals as goal
-use Rattle.history_rows.proofs.tests.Recent.refusal.Goals.{After-all, After-all-2, After-all-3, After-all-4}
+use Rattle.history_rows.proofs.tests.Recent.check.Goals as goal
+use Rattle.history_rows.proofs.tests.Recent.check.Goals.{After-all, After-all-2, After-all-3, After-all-4}
 
 -- what each test says of the rows
 
