@@ -1,15 +1,12 @@
--- A point of unit floats that is not refused, and the fit's lists as the code lends them. Assumes nothing.
-use Prim.Native.Nat.{ℕ, ◌-◌, ◌*◌, ◌≤◌, ◌<◌}
+-- A point of unit floats that is not refused, and the point by what the fit answers. Assumes nothing.
+use Prim.Native.Nat.{ℕ, ◌≤◌, ◌<◌}
 use mathlib.Core.Path.{◌≡◌, ap}
-use native.Mathlib.Nat.{sub-zero}
 use native.Mathlib.Omega.{arith}
-use lib.ListN.{take}
 use lib.Ieee.{Float}
 use borrow.Author.Tests.{le-leb, ne_eqb}
 use Rattle.std.specs.Prelude.{Result, Ok}
 use Rattle.refusal.specs.declared.Refusal.{Refusal}
 use Rattle.gp_model.specs.declared.Model.{Model}
-use Rattle.gp_model.specs.Fit.{fit_of}
 use Rattle.search.specs.Search.{draw_of, draw_point_of}
 use Rattle.history.specs.declared.Training.{Training}
 use Rattle.proposal.specs.Points.{fit_for, point_by, point_for}
@@ -18,10 +15,6 @@ pub drawn-point : (d w : ℕ) → d ≤ 20 → 0 < w → draw_point_of d w ≡ O
 unfolding draw_point_of
 drawn-point d w h k = rw (le-leb d 20 h, ne_eqb w 0 (λ e. omega arith))
 
-pub fit-lent : (t : Training) (noise : Float) → fit_of (take (t.n * t.d - 0) t.x) (take (t.n - 0) t.y) t.d noise ≡ fit_for t noise
-fit-lent t noise = rw (sub-zero (t.n * t.d), sub-zero t.n)
-
--- the point by what the fit answers
 pub point-is : (t : Training) (noise : Float) (candidates w : ℕ) (f : Result Model Refusal) → fit_for t noise ≡ f → point_for t noise candidates w ≡ point_by f t.d candidates w
 unfolding point_for
 point-is t noise candidates w f e = ap (λ (g : Result Model Refusal). point_by g t.d candidates w) e

@@ -24,8 +24,8 @@ use Rattle.gp_model.specs.Fit.{fit_domain, model_of, factored_of, fitted_of, fit
 use Rattle.gp_model.specs.Kernels.{kernel_matrix_of}
 use Rattle.gp_model.specs.Statistics.{lengthscales_of}
 use Rattle.prediction.specs.Predict.{counts_fit}
-use Rattle.search.specs.Search.{search_domain, optimum_of, optimize_acquisition_of}
-use Rattle.search.proofs.Earliest.{earliest, optimizes}
+use Rattle.search.specs.Search.{search_domain}
+use Rattle.search.proofs.Earliest.{earliest}
 use Rattle.dimensions.specs.declared.DimensionInfo.{DimensionInfo}
 use Rattle.history.specs.declared.Training.{Training}
 use Rattle.history_view.specs.declared.View.{View}
@@ -87,12 +87,12 @@ searchable x y d w m g z =
 pub model-columns : (t : Training) (noise : Float) (m : Model) → fit_for t noise ≡ Ok m → m.d ≡ t.d
 model-columns t noise m e = (fitted (take (t.n * t.d) t.x) (take t.n t.y) t.d noise m e).columns
 
--- and a search by it is answered
-pub searches : (t : Training) (noise : Float) (candidates w : ℕ) (m : Model) → fit_for t noise ≡ Ok m → 0 < w → optimize_acquisition_of m t.d candidates w ≡ Ok (optimum_of m candidates w)
-searches t noise candidates w m e h =
+-- and the search takes it
+pub searches : (t : Training) (noise : Float) (w : ℕ) (m : Model) → fit_for t noise ≡ Ok m → 0 < w → T (search_domain m t.d w)
+searches t noise w m e h =
     let x = take (t.n * t.d) t.x in
     let y = take t.n t.y in
-    optimizes m t.d candidates w (searchable x y t.d w m (fitted x y t.d noise m e) (λ z. omega arith))
+    searchable x y t.d w m (fitted x y t.d noise m e) (λ z. omega arith)
 
 pub point-moves : (t : Training) (noise : Float) (candidates w : ℕ) → (point_for t noise candidates w).next ≡ moved_of (point_for t noise candidates w).drawn w
 unfolding point_for
