@@ -76,11 +76,15 @@ back-next l z x n m i v hz hi hx hv =
     less-same m (λ k. entry l (i + 1 + k) i) (λ k. get_or y (i + 1 + k) nan) (λ k. entry l (i + 1 + k) i) (λ k. get_or xs k nan) (get_or z i nan) (λ k g. refl) (λ k g. back-after 100 z xs i h k (rw (back-length l z n m) g)) in
     rw (hv, hx, e, back-here 100 z xs i h) (ap (λ (s : Float). set y i (div binary64 s (entry l i i))) same ∙ back-set 100 z xs i h _)
 
--- a solution fills its array
-pub solve-length : (l b : List Float) (n : ℕ) → n ≤ 100 → length (solution_of l b n) ≡ 100
-solve-length l b n h = padded-length 100 (backward_of l (forward_of l b n) n n) (rw (back-length l (forward_of l b n) n n) h)
+-- up to a hundred rows a solution is found
+pub solution-found : (l b : List Float) (n : ℕ) → n ≤ 100 → solution_of l b n ≡ padded 100 (backward_of l (forward_of l b n) n n)
+solution-found l b n h = rw (le-leb n 100 h)
 
--- up to a hundred rows there is a solution
+-- it fills its array
+pub solve-length : (l b : List Float) (n : ℕ) → n ≤ 100 → length (solution_of l b n) ≡ 100
+solve-length l b n h = rw (solution-found l b n h) (padded-length 100 (backward_of l (forward_of l b n) n n) (rw (back-length l (forward_of l b n) n n) h))
+
+-- and is the answer
 pub solves : (l b : List Float) (n : ℕ) → n ≤ 100 → solve_of l b n ≡ Ok (solution_of l b n)
 unfolding solve_of
 solves l b n h = rw (le-leb n 100 h)

@@ -1,17 +1,20 @@
 -- Forward, then backward: each lane is the plain solution. Assumes nothing.
-use mathlib.Core.Path.{◌≡◌, sym, ◌∙◌}
-use mathlib.Core.List.{List}
+use mathlib.Core.Path.{◌≡◌, sym, ap, ◌∙◌}
+use mathlib.Core.Bool.{cond}
+use mathlib.Core.List.{List, []}
 use Prim.Native.Nat.{ℕ, ◌≤◌, ◌<◌}
 use native.Mathlib.Omega.{arith}
+use borrow.Author.Tests.{le-leb}
 use lib.ListN.{length, get_or}
 use lib.Seq.{ext_get_or}
 use lib.Ieee.{Float, nan}
 use Rattle.arith.specs.Lists.{list_of}
 use Rattle.arith.proofs.Lists.{grown-at, grown-length, list_same, padded-at}
 use Rattle.factor.specs.Solve.{forward_at, forward_of, backward_of, solution_of}
-use Rattle.factor.proofs.Back.{back-length}
+use Rattle.factor.proofs.Back.{back-length, solution-found}
 use Rattle.lanes.specs.Rows.{lane_of, lanes_of, rows_of}
 use Rattle.lanes.proofs.Rows.{eight-same, lanes_at}
+use Rattle.lanes.specs.Solving.{solve_lanes_of}
 
 -- a list by its elements
 pub list-again : (xs : List Float) (n : ℕ) → length xs ≡ n → list_of (λ i. get_or xs i nan) n ≡ xs
@@ -32,5 +35,10 @@ module _ (l : List Float) (b : List (List Float)) (n : ℕ) (top : n ≤ 100) wh
     where
       one : (i : ℕ) → i < n → (p : ℕ) → p < 8 → get_or (backward_of l (lane_of (rows_of (lanes_of first n)) n p) n n) i nan ≡ get_or (solution_of l (lane_of b 100 p) n) i nan
       one i h p g =
-          rw (lane-of-lanes first n p g (grown-length (forward_at l (lane_of b 100 p)) n))
+          rw (lane-of-lanes first n p g (grown-length (forward_at l (lane_of b 100 p)) n), solution-found l (lane_of b 100 p) n top)
           (sym (padded-at 100 (backward_of l (first p) n n) i (rw (back-length l (first p) n n) h)))
+
+  -- up to a hundred rows that is the answer
+  pub answered : rows_of (lanes_of (λ p. backward_of l (lane_of (rows_of (lanes_of first n)) n p) n n) n) ≡ solve_lanes_of l b n
+  unfolding solve_lanes_of
+  answered = ap rows_of solved-lanes ∙ sym (ap (λ t. cond t (rows_of (lanes_of (λ p. solution_of l (lane_of b 100 p) n) n)) (rows_of [])) (le-leb n 100 top))

@@ -39,20 +39,19 @@ pub fn draw_point(d: usize, word: u64) -> Result<Candidate, Refusal>
     Ok(draw(word, d))
 }
 
-// That many candidates more, at most eight at a time.
+// That many candidates more: eight at a time, and then what is left of them.
 fn advance(m: Lent, start: Search, candidates: u64) -> Search
     requires { Nonzero start.word }
     ensures { result ≡ advance_of (model_of m.entry) candidates start }
 {
     let mut s = start;
-    let mut i = 0;
-    // Kept: a turn takes up to eight of any u64; a `step_by(8)` owes a proof that no step passes u64::MAX, which is false.
-    while i < candidates {
-        let k = (candidates - i).min(8);
-        s = eights::some_candidates(m, s, k as usize);
-        i += k;
+    for _ in 0..candidates / 8 {
+        s = eights::some_candidates(m, s, 8);
     }
-    s
+    match candidates % 8 {
+        0 => s,
+        rest => eights::some_candidates(m, s, rest as usize),
+    }
 }
 
 // The point of all 0.5.
