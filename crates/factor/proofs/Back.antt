@@ -78,6 +78,7 @@ back-next l z x n m i v hz hi hx hv =
 
 -- up to a hundred rows a solution is found
 pub solution-found : (l b : List Float) (n : ℕ) → n ≤ 100 → solution_of l b n ≡ padded 100 (backward_of l (forward_of l b n) n n)
+unfolding solution_of
 solution-found l b n h = rw (le-leb n 100 h)
 
 -- it fills its array

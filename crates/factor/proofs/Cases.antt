@@ -13,7 +13,7 @@ use Rattle.arith.specs.Lists.{grown, every}
 use Rattle.root.specs.Sqrt.{isqrt, root_of, sqrt_of}
 use Rattle.factor.specs.Triangle.{at, entry, rows_of, less_of}
 use Rattle.factor.specs.Cholesky.{rest_of, element_of, columns_of, factor_of, positive, cholesky_of}
-use Rattle.factor.specs.Solve.{forward_at, forward_of, backward_at, backward_of, solve_of}
+use Rattle.factor.specs.Solve.{forward_at, forward_of, backward_at, backward_of, solution_of, solve_of}
 
 abbrev float : ℕ → Float
 float n = of_int binary64 (pos n)
@@ -36,7 +36,7 @@ factored = (refl, refl)
 
 -- the right-hand side 6 7 is the matrix times 1 1
 solved : made (take 2) (solve_of factor (float 6 ∷ float 7 ∷ []) 2) ≡ Ok (float 1 ∷ float 1 ∷ [])
-unfolding solve_of backward_of less_of grown of_bits of_int round sub mul div
+unfolding solve_of solution_of backward_of less_of grown of_bits of_int round sub mul div
 solved = refl
 
 -- its parts: the places of a packed triangle, the last of a hundred rows being place 5049; what is left of 5 by the column before, 4, and its root; both solves

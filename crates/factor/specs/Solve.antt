@@ -24,7 +24,7 @@ backward_of l z n zero = []
 backward_of l z n (suc m) = backward_at l z (n - suc m) m (backward_of l z n m) ∷ backward_of l z n m
 
 -- x with L Lᵀ x = b, of the first n rows, in an array of a hundred; over 100 rows none is found
-abbrev pub solution_of : List Float → List Float → ℕ → List Float
+unfoldable pub solution_of : List Float → List Float → ℕ → List Float
 solution_of l b n = padded 100 (cond (leb n 100) (backward_of l (forward_of l b n) n n) [])
 
 -- the same: 11 over 100 rows

@@ -16,7 +16,7 @@ use Rattle.arith.specs.Rounding.{nearest_of, round_of}
 use Rattle.root.specs.Sqrt.{isqrt, root_of, sqrt_of}
 use Rattle.arith.specs.Sums.{sum_over}
 use Rattle.factor.specs.Cholesky.{columns_of, cholesky_of}
-use Rattle.factor.specs.Solve.{backward_of, solve_of}
+use Rattle.factor.specs.Solve.{backward_of, solve_of, solution_of}
 use Rattle.factor.specs.Triangle.{rows_of, less_of}
 use Rattle.kernel.specs.Matern.{scaled_root_of, decay_of, matern52_of}
 use Rattle.gp_model.specs.declared.Model.{Model}
@@ -53,7 +53,7 @@ Fitted =
     × (made (λ m. take 3 m.cholesky) two ≡ Ok (word 0x3ff6a09e667f3bcd ∷ word 0x3fb917edfffebf91 ∷ word 0x3ff692b0170012fa ∷ []))
 
 fitted : Fitted
-unfolding fit_of fit_domain fitted_of all_within every covariance_of similarity_of lengthscale_of variance_of mean_of value_deviation_of standard_of least_of_first cholesky_of columns_of rows_of less_of grown solve_of backward_of matern52_of scaled_root_of decay_of sum_over exp_of horner_of reduced_of scaled_of whole_of nearest_of round_of sqrt_of root_of isqrt of_bits to_bits round add sub mul div neg lt le is_nan of_int
+unfolding fit_of fit_domain fitted_of all_within every covariance_of similarity_of lengthscale_of variance_of mean_of value_deviation_of standard_of least_of_first cholesky_of columns_of rows_of less_of grown solve_of solution_of backward_of matern52_of scaled_root_of decay_of sum_over exp_of horner_of reduced_of scaled_of whole_of nearest_of round_of sqrt_of root_of isqrt of_bits to_bits round add sub mul div neg lt le is_nan of_int
 fitted = (refl, refl, refl, refl, refl, refl, refl, refl)
 
 abbrev Refused : Type 0

@@ -7,7 +7,7 @@ use lib.ListN.{get_or}
 use lib.Ieee.{Float, binary64, of_int, of_bits, add, mul, sub, div, round}
 use Rattle.arith.specs.Lists.{grown}
 use Rattle.arith.specs.Sums.{sum_over}
-use Rattle.factor.specs.Solve.{backward_of, solve_of}
+use Rattle.factor.specs.Solve.{backward_of, solve_of, solution_of}
 use Rattle.factor.specs.Triangle.{less_of}
 use Rattle.lanes.specs.Rows.{eight_of, lane_of, zero_row}
 use Rattle.lanes.specs.Solving.{solve_lanes_of}
@@ -46,5 +46,5 @@ Solved =
     × (get_or (solve_lanes_of (whole 2 ∷ []) (rising ∷ []) 101) 0 [] ≡ zero_row)
 
 solved : Solved
-unfolding solve_lanes_of solve_of backward_of less_of grown of_bits of_int round sub mul div
+unfolding solve_lanes_of solve_of solution_of backward_of less_of grown of_bits of_int round sub mul div
 solved = (refl, refl, refl, refl)

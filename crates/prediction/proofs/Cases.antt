@@ -14,7 +14,7 @@ use Rattle.arith.specs.Rounding.{nearest_of, round_of}
 use Rattle.root.specs.Sqrt.{isqrt, root_of, sqrt_of}
 use Rattle.arith.specs.Sums.{sum_over}
 use Rattle.factor.specs.Cholesky.{columns_of, cholesky_of}
-use Rattle.factor.specs.Solve.{backward_of, solve_of}
+use Rattle.factor.specs.Solve.{backward_of, solve_of, solution_of}
 use Rattle.factor.specs.Triangle.{rows_of, less_of}
 use Rattle.kernel.specs.Matern.{scaled_root_of, decay_of, matern52_of}
 use Rattle.gp_model.specs.Fit.{fit_domain, fitted_of, fit_of}
@@ -36,5 +36,5 @@ Predicted =
     × (and_then two (λ m. predict_of m (float 1 ∷ float 1 ∷ [])) ≡ Err OutOfDomain)
 
 predicted : Predicted
-unfolding predict_of counts_fit posterior_mean_of posterior_std_of fit_of fit_domain fitted_of all_within every covariance_of similarity_of lengthscale_of variance_of mean_of value_deviation_of standard_of cholesky_of columns_of rows_of less_of grown solve_of backward_of matern52_of scaled_root_of decay_of sum_over exp_of horner_of reduced_of scaled_of whole_of nearest_of round_of sqrt_of root_of isqrt of_bits to_bits round add sub mul div neg lt le is_nan of_int
+unfolding predict_of counts_fit posterior_mean_of posterior_std_of fit_of fit_domain fitted_of all_within every covariance_of similarity_of lengthscale_of variance_of mean_of value_deviation_of standard_of cholesky_of columns_of rows_of less_of grown solve_of solution_of backward_of matern52_of scaled_root_of decay_of sum_over exp_of horner_of reduced_of scaled_of whole_of nearest_of round_of sqrt_of root_of isqrt of_bits to_bits round add sub mul div neg lt le is_nan of_int
 predicted = (refl, refl, refl, refl)

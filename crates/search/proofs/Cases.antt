@@ -22,7 +22,7 @@ use Rattle.arith.specs.Rounding.{nearest_of, round_of}
 use Rattle.root.specs.Sqrt.{isqrt, root_of, sqrt_of}
 use Rattle.arith.specs.Sums.{sum_over}
 use Rattle.factor.specs.Cholesky.{columns_of, cholesky_of}
-use Rattle.factor.specs.Solve.{backward_of, solve_of}
+use Rattle.factor.specs.Solve.{backward_of, solve_of, solution_of}
 use Rattle.factor.specs.Triangle.{rows_of, less_of}
 use Rattle.kernel.specs.Matern.{scaled_root_of, decay_of, matern52_of}
 use Rattle.rng_util.specs.Draws.{unit_of}
@@ -55,7 +55,7 @@ Found =
     × (searched two 3 0 ≡ Err OutOfDomain)
 
 found : Found
-unfolding optimize_acquisition_of optimum_of search_domain counts_fit advance_of score_of expected_improvement_of norm_cdf_of norm_pdf_of polynomial_of upper_of unit_of moved_of next_of xor_left xor_right posterior_mean_of posterior_std_of fit_of fit_domain fitted_of all_within every covariance_of similarity_of lengthscale_of variance_of mean_of value_deviation_of standard_of least_of_first cholesky_of columns_of rows_of less_of grown solve_of backward_of matern52_of scaled_root_of decay_of sum_over exp_of horner_of reduced_of scaled_of whole_of nearest_of round_of sqrt_of root_of isqrt of_bits to_bits round add sub mul div neg lt le is_nan of_int
+unfolding optimize_acquisition_of optimum_of search_domain counts_fit advance_of score_of expected_improvement_of norm_cdf_of norm_pdf_of polynomial_of upper_of unit_of moved_of next_of xor_left xor_right posterior_mean_of posterior_std_of fit_of fit_domain fitted_of all_within every covariance_of similarity_of lengthscale_of variance_of mean_of value_deviation_of standard_of least_of_first cholesky_of columns_of rows_of less_of grown solve_of solution_of backward_of matern52_of scaled_root_of decay_of sum_over exp_of horner_of reduced_of scaled_of whole_of nearest_of round_of sqrt_of root_of isqrt of_bits to_bits round add sub mul div neg lt le is_nan of_int
 found = (refl, refl, refl, refl, refl, refl, refl)
 
 -- ---- eight at a time, from the words of document 01's sample book: 1, 40822041, 100041060c011441

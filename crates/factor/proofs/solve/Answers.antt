@@ -6,7 +6,7 @@ use borrow.Author.Tests.{le-leb, lt-leb}
 use lib.ListN.{take}
 use Rattle.arith.specs.Lists.{padded}
 use Rattle.arith.proofs.Lists.{grown-padded-take}
-use Rattle.factor.specs.Solve.{forward_at, forward_of, solve_of}
+use Rattle.factor.specs.Solve.{forward_at, forward_of, solution_of, solve_of}
 use Rattle.factor.proofs.solve.Goals as goal
 use Rattle.factor.proofs.solve.Goals.{After-forward-x}
 
@@ -22,5 +22,5 @@ pub backward-requires : goal.backward-requires
 backward-requires c = (search rules, c.forward-x.ensures ∙ ap (padded 100) (sym (front (goal.at.backward-requires c).After-forward-x)))
 
 pub returns : goal.returns
-unfolding solve_of
+unfolding solve_of solution_of
 returns c = rw (c.backward.ensures, le-leb c.args.n 100 (omega arith), front (goal.at.returns c).After-forward-x)
