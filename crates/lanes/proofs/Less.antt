@@ -28,10 +28,3 @@ module _ (n : ℕ) (x : ℕ → Float) (y : ℕ → ℕ → Float) (b : ℕ → 
 -- a product that fits: twice where a row of the triangle starts
 pub row_start : (i : ℕ) → i < 100 → i * (i + 1) ≤ 9900
 row_start i h = let l : i ≤ 99 = omega arith in let u : i + 1 ≤ 100 = omega arith in mul-le-mul l u
-
--- an entry of a column, from the one above it
-pub below-entry : (i k : ℕ) → at (i + k) i + (i + 1 + k) ≡ at (i + 1 + k) i
-below-entry i k = let e : i + 1 + k ≡ suc (i + k) = omega arith in rw e (omega (arith, size-suc (i + k)))
-
-pub below_room : (i k m : ℕ) {place : ℕ} → i + m < 100 → k < m → place ≡ at (i + k) i → place + (i + 1 + k) < 5050
-below_room i k m h g e = rw (e, below-entry i k) (at_room (i + 1 + k) i (omega arith) (omega arith))

@@ -4,7 +4,7 @@ ghost use Rattle.history.proofs.Counts.{Counts};
 ghost use Rattle.proposal.specs.Proposal.{from_point, at_random, candidate_of, refused_of, compute_candidate_of};
 
 use crate::{Point, Proposal, points, walking};
-use dimensions::{DimensionInfo, Stored};
+use dimensions::{DimensionInfo, Dimensions, Stored};
 use distribution::ParamValue;
 use history_view::View;
 use settings::Settings;
@@ -91,7 +91,11 @@ pub fn compute_candidate(
     if word == 0 {
         return refused(11, word);
     }
-    match history_view::view_of(s.slots as usize, s.n_startup_trials, dims, k, h) {
+    let dimensions = Dimensions {
+        list: dims,
+        count: k,
+    };
+    match history_view::view_of(s.slots as usize, s.n_startup_trials, dimensions, h) {
         Ok(v) => candidate(s, dims, k, word, v),
         Err(refusal) => refused(refusal.number(), word),
     }

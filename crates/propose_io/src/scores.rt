@@ -2,6 +2,7 @@
 // stored it.
 ghost use Rattle.std.specs.Prelude.{◌<◌, ◌≤◌, length};
 
+use dimensions::Dimensions;
 use gp_model::Model;
 use history::Training;
 use refusal::Refusal;
@@ -85,8 +86,11 @@ fn fit(t: &Training, noise_variance: f64) -> Result<Model, Refusal>
 fn put_trial(rt: HostRuntime, s: &Sampler, trial: u64, h: &[u64]) -> bool {
     let settings = s.settings;
     let slots = settings.slots as usize;
-    let Ok(v) = history_view::view_of(slots, settings.n_startup_trials, s.dimensions, s.n_dims, h)
-    else {
+    let dims = Dimensions {
+        list: s.dimensions,
+        count: s.n_dims,
+    };
+    let Ok(v) = history_view::view_of(slots, settings.n_startup_trials, dims, h) else {
         return true;
     };
     let t = v.training;

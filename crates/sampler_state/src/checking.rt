@@ -6,7 +6,7 @@ ghost use Rattle.sampler_state.specs.State.{taken, holds, trials_once};
 ghost use Rattle.sampler_state.specs.State.{stored_ok, progress_ok, place_ok, sampler_ok};
 
 use crate::{Place, Sampler};
-use dimensions::{DimensionInfo, Stored};
+use dimensions::{DimensionInfo, Dimensions, Stored};
 use distribution::{Distribution, IntDistribution, ParamValue};
 
 // Whether an int's value lies between its ends.
@@ -106,7 +106,11 @@ fn start_ok(s: &Sampler) -> bool
 pub fn sampler_ok(s: Sampler) -> bool
     ensures { result ≡ sampler_ok s }
 {
-    if !start_ok(&s) || !dimensions::dimensions_ok(s.dimensions, s.n_dims) {
+    let dims = Dimensions {
+        list: s.dimensions,
+        count: s.n_dims,
+    };
+    if !start_ok(&s) || !dimensions::dimensions_ok(dims) {
         return false;
     }
     let judge = Judge {

@@ -20,10 +20,10 @@ returns-in_err-check c =
     rw (p.1, p.2, sym c.check.ensures, c.in_err-check.was)
 
 -- what is known of a history that is not refused, and of its recent rows
-known : (c : After-recent_part-recent) → let a = c.args in Recent a.slots a.k a.h.now c.recent_part-recent.result
+known : (c : After-recent_part-recent) → let a = c.args in Recent a.slots a.dims.count a.h.now c.recent_part-recent.result
 known c =
     let a = c.args in
-    recent a.slots a.dims a.k a.h.now c.recent_part-recent.result (sym c.check.ensures ∙ c.in_ok-check.was) c.recent_part-recent.ensures
+    recent a.slots a.dims.list a.dims.count a.h.now c.recent_part-recent.result (sym c.check.ensures ∙ c.in_ok-check.was) c.recent_part-recent.ensures
 
 pub offset_bounds-h-start : goal.offset_bounds-h-start
 offset_bounds-h-start c = let l = (known (goal.at.offset_bounds-h-start c).After-recent_part-recent).inside in omega arith
@@ -44,6 +44,6 @@ pub returns : goal.returns
 unfolding mapping_of
 returns c =
     let a = c.args in
-    let e : c.recent_mapping-ids.result ≡ filled None 20 (mapped_of a.slots a.dims a.k (row_at a.slots (recent_of a.slots a.h.now) 0)) =
-    c.recent_mapping-ids.ensures ∙ ap (λ (r : List ℕ). filled None 20 (mapped_of a.slots a.dims a.k (row_at a.slots r 0))) (recent-part a.slots a.h.now c.recent_part-recent.result.start (known (goal.at.returns c).After-recent_part-recent).start) in
+    let e : c.recent_mapping-ids.result ≡ filled None 20 (mapped_of a.slots a.dims.list a.dims.count (row_at a.slots (recent_of a.slots a.h.now) 0)) =
+    c.recent_mapping-ids.ensures ∙ ap (λ (r : List ℕ). filled None 20 (mapped_of a.slots a.dims.list a.dims.count (row_at a.slots r 0))) (recent-part a.slots a.h.now c.recent_part-recent.result.start (known (goal.at.returns c).After-recent_part-recent).start) in
     rw (sym c.check.ensures, c.in_ok-check.was, e)
