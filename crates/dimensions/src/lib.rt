@@ -4,7 +4,7 @@
 pub mod bounds;
 
 pub use bounds::{dimension, dimensions_ok, is_continuous};
-use distribution::{Distribution, ParamValue};
+use distribution::Distribution;
 
 // A dimension: its distribution beside its internal bounds. Those of a choice are +0 and +0.
 #[derive(Clone, Copy)]
@@ -20,10 +20,4 @@ pub struct DimensionInfo {
 pub struct Dimensions {
     pub list: [DimensionInfo; 20],
     pub count: usize,
-}
-
-// A value in an array.
-#[derive(Clone, Copy)]
-pub struct Stored {
-    pub value: ParamValue,
 }
