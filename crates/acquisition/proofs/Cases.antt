@@ -1,7 +1,7 @@
 -- The definitions at single points, computed; the words are what Rust prints for the same formulas with its own exp. Assumes nothing.
 use Rattle.std.specs.Prelude.{Ok, Err}
 use mathlib.Core.Path.{◌≡◌, refl}
-use Rattle.refusal.specs.declared.Refusal.TheVariants.{NoRows, Pivot}
+use Rattle.refusal.specs.declared.Refusal.TheVariants.{Settings, Malformed}
 use lib.IntN.{pos, negsuc}
 use lib.Ieee.{binary64, of_bits, to_bits, round, add, sub, mul, div, neg, lt, le, is_nan, of_int, to_signed}
 use Rattle.exponential.specs.Exp.{exp_of, horner_of, reduced_of, scaled_of, whole_of}
@@ -42,8 +42,8 @@ Small =
     (word_of (expected_improvement_of (of_bits binary64 0) (of_bits binary64 0x3d719799812dea11) (of_bits binary64 0)) ≡ 0x3d5c12b489644ecd)
     × (word_of (expected_improvement_of (of_bits binary64 0) (of_bits binary64 0x3d719799812dea10) (of_bits binary64 0)) ≡ 0)
     × (both (add binary64) (Ok one) (Ok one) ≡ Ok (of_int binary64 (pos 2)))
-    × (both (add binary64) (Err NoRows) (Err Pivot) ≡ Err NoRows)
-    × (both (add binary64) (Ok one) (Err Pivot) ≡ Err Pivot)
+    × (both (add binary64) (Err Settings) (Err Malformed) ≡ Err Settings)
+    × (both (add binary64) (Ok one) (Err Malformed) ≡ Err Malformed)
 
 small : Small
 unfolding norm_pdf_of polynomial_of upper_of norm_cdf_of expected_improvement_of exp_of horner_of reduced_of scaled_of whole_of nearest_of round_of of_bits to_bits round add sub mul div neg lt le is_nan of_int to_signed

@@ -1,5 +1,5 @@
 -- The definitions at single points, computed. Assumes nothing.
-use Rattle.refusal.specs.declared.Refusal.TheVariants.{OutOfDomain, NoRows, Pivot}
+use Rattle.refusal.specs.declared.Refusal.TheVariants.{OutOfDomain, Settings, Malformed}
 use Rattle.std.specs.Prelude.{Ok, Err}
 use Rattle.std.proofs.Common.{◌≡◌, ℕ, ◌+◌, ◌*◌, ◌%◌, Bool, true, false, eqb, ltb, List, [], ◌∷◌, length, pos, negsuc, refl}
 use lib.Ieee.{Float, nan, inf, binary64, of_bits, of_int, to_bits, round, add, mul, neg, lt, le, is_nan}
@@ -82,7 +82,7 @@ Answers =
     × (value_of (Err OutOfDomain) ≡ nan)
     × (made neg (Ok plus0) ≡ Ok minus0)
     × (made neg (Err OutOfDomain) ≡ Err OutOfDomain)
-    × (pick true (Err NoRows) (Err Pivot) ≡ Err NoRows)
+    × (pick true (Err Settings) (Err Malformed) ≡ Err Settings)
 
 answers : Answers
 unfolding of_bits of_int round to_bits neg

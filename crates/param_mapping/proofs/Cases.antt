@@ -24,7 +24,7 @@ abbrev Mappings : Type 0
 Mappings =
     -- by id, each entry once, the choice too
     (mapping_of 3 dims 3 (first ++ second) ≡ Ok (filled None 20 (Some 4 ∷ Some 1 ∷ Some 9 ∷ [])))
-    -- a third int of that range finds None, nor does one of another range
+    -- a third int of that range finds none, nor does one of another range
     × (mapping_of 3 (dimension_of (int 4) ∷ dimension_of (int 4) ∷ dimension_of (int 4) ∷ dimension_of (int 8) ∷ []) 4 first ≡ Ok (filled None 20 (Some 4 ∷ Some 9 ∷ None ∷ None ∷ [])))
     -- without a row nothing is found
     × (mapping_of 3 dims 3 [] ≡ Ok (filled None 20 []))
