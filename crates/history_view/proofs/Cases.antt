@@ -6,7 +6,7 @@ use mathlib.Core.Path.{◌≡◌, refl}
 use mathlib.Core.Bool.{true, false}
 use mathlib.Core.List.Permᴰ
 use mathlib.Core.List.{◌∷◌, ◌++◌}
-use Rattle.std.proofs.Common.{Ok, Err}
+use Rattle.std.specs.Prelude.{Ok, Err}
 use Rattle.refusal.specs.declared.Refusal.TheVariants.{BrokenRows}
 use lib.Ieee.{of_bits, of_int, to_bits, neg, le, lt, eq, sub, div, round}
 use Rattle.arith.specs.Outcome.{made}
