@@ -18,7 +18,6 @@ use Rattle.arith.specs.Sums.{sum_over}
 use Rattle.factor.specs.Cholesky.{columns_of as factor_columns, cholesky_of}
 use Rattle.factor.specs.Triangle.{rows_of, less_of}
 use Rattle.kernel.specs.Matern.{scaled_root_of, decay_of, matern52_of}
-use Rattle.rng_util.specs.declared.Draw.{Draw}
 use Rattle.rng_util.specs.Draws.{unit_of, word_draw_of, whole_draw_of, whole_of as whole_at, range_ok}
 use Rattle.rng_util.specs.Generator.{next_of, moved_of}
 use Rattle.distribution.specs.declared.Distribution.{Distribution}
@@ -51,7 +50,7 @@ use Rattle.settings.specs.Settings.{settings_ok}
 use Rattle.proposal.specs.Points.{point_for}
 use Rattle.proposal.specs.Proposal.{candidate_of, compute_candidate_of}
 use Rattle.dimensions.specs.Empty.{empty_value}
-use Rattle.proposal.specs.Values.{step_of, walk_of}
+use Rattle.proposal.specs.Values.{Values, step_of, walk_of}
 
 -- that start-up count, no candidates, no noise, one slot
 abbrev settings : ℕ → Settings
@@ -62,10 +61,10 @@ abbrev dims : List DimensionInfo
 dims = dimension_of (Distribution.Categorical (record { n_choices = 5 })) ∷ dimension_of (Distribution.Int (record { low = pos 0; high = pos 9; log_scale = false; stepped = false; step = pos 0 })) ∷ []
 
 -- words drawn and the two values
-abbrev told : Draw (List ParamValue) → ℕ × ParamValue × ParamValue
+abbrev told : Values → ℕ × ParamValue × ParamValue
 told p = (p.drawn, get_or p.value 0 empty_value, get_or p.value 1 empty_value)
 
-abbrev said : Result (Draw (List ParamValue)) Refusal → Result (ℕ × ParamValue × ParamValue) Refusal
+abbrev said : Result Values Refusal → Result (ℕ × ParamValue × ParamValue) Refusal
 said r = made told r
 
 abbrev New : Type 0

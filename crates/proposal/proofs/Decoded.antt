@@ -29,7 +29,7 @@ use Rattle.settings.specs.declared.Settings.{Settings}
 use Rattle.proposal.specs.Points.{fit_for, search_point, point_for}
 use Rattle.proposal.specs.Proposal.{after, from_point, candidate_of, compute_candidate_of}
 use Rattle.dimensions.specs.Empty.{empty_value}
-use Rattle.proposal.specs.Values.{decode_of, undrawn, step_of, walked_of}
+use Rattle.proposal.specs.Values.{Values, decode_of, undrawn, step_of, walked_of}
 use Rattle.proposal.proofs.Draws.{point-is}
 use Rattle.proposal.proofs.Moving.{model-columns}
 use Rattle.proposal.proofs.Numbers.{made-by}
@@ -50,12 +50,12 @@ step-decoded d u w r c e =
     let m = unmade (undrawn w) (decode_of d u) r (rw (is_true (continuous_of d.distribution) c) at e) in
     m.1 ∙ ap (λ (x : Draw ParamValue). Ok x.value) m.2
 
-from-point : (dims : List DimensionInfo) (k : ℕ) (p : Draw (List Float)) (c : Draw (List ParamValue)) → from_point dims k p ≡ Ok c → Decodes dims k c.value p.value
+from-point : (dims : List DimensionInfo) (k : ℕ) (p : Draw (List Float)) (c : Values) → from_point dims k p ≡ Ok c → Decodes dims k c.value p.value
 from-point dims k p c e j l t =
     let u = unmade (after p.drawn) (walked_of (Some p.value) dims k p.next) c e in
     let s = (walked-in (Some p.value) dims p.next k u.0 u.1).values j l in
     step-decoded (dimension_at dims j) (get_or p.value (length (columns_of dims j)) nan) (moved_of s.moves p.next) s.draw t s.is
-    ∙ ap Ok (sym s.value ∙ ap (λ (d : Draw (List ParamValue)). get_or d.value j empty_value) u.2)
+    ∙ ap Ok (sym s.value ∙ ap (λ (d : Values). get_or d.value j empty_value) u.2)
 
 -- of a point with a coordinate for each of them, in an array
 from-array : (dims : List DimensionInfo) (k : ℕ) (values : List ParamValue) (x point : List Float) → Decodes dims k values x → x ≡ padded 20 point → length point ≡ length (columns_of dims k) → Decodes dims k values point
@@ -80,7 +80,7 @@ module _ (s : Settings) (dims : List DimensionInfo) (k w : ℕ) (h : List ℕ) w
   abbrev fit : Result Model Refusal
   fit = fit_for view.training s.noise_variance
 
-  module _ (c : Draw (List ParamValue)) (e : compute_candidate_of s dims k w h ≡ Ok c) (made : T (view.reached && leb 1 view.training.d)) (m : Model) (f : fit ≡ Ok m) where
+  module _ (c : Values) (e : compute_candidate_of s dims k w h ≡ Ok c) (made : T (view.reached && leb 1 view.training.d)) (m : Model) (f : fit ≡ Ok m) where
     -- the point is the search's
     searched : Decodes dims k c.value (optimum_of m s.n_candidates w).x
     unfolding candidate_of

@@ -16,7 +16,6 @@ use Rattle.arith.proofs.Tests.{taken}
 use Rattle.distribution.proofs.Facts.{parts}
 use Rattle.rng_util.specs.declared.Draw.{Draw}
 use Rattle.rng_util.specs.Generator.{moved_of}
-use Rattle.distribution.specs.declared.ParamValue.{ParamValue}
 use Rattle.factor.specs.Cholesky.{cholesky_of}
 use Rattle.gp_model.specs.declared.Model.{Model}
 use Rattle.gp_model.specs.Fit.{fit_domain, model_of, factored_of, fitted_of, fit_of}
@@ -32,7 +31,7 @@ use Rattle.history_view.specs.View.{seen_of}
 use Rattle.settings.specs.declared.Settings.{Settings}
 use Rattle.proposal.specs.Proposal.{after, from_point, candidate_of, compute_candidate_of}
 use Rattle.proposal.specs.Points.{fit_for, point_by, point_for}
-use Rattle.proposal.specs.Values.{walked_of}
+use Rattle.proposal.specs.Values.{Values, walked_of}
 use Rattle.proposal.proofs.Numbers.{made-by}
 use Rattle.proposal.proofs.Walk.{unmade, moves-on, walked-in}
 
@@ -87,7 +86,7 @@ point-moves t noise candidates w = go (fit_for t noise) refl
     go (Err r) e = refl
 
 module _ (s : Settings) (dims : List DimensionInfo) (k w : ℕ) where
-  candidate-moves : (v : View) (c : Draw (List ParamValue)) → candidate_of s dims k w v ≡ Ok c → c.next ≡ moved_of c.drawn w
+  candidate-moves : (v : View) (c : Values) → candidate_of s dims k w v ≡ Ok c → c.next ≡ moved_of c.drawn w
   unfolding candidate_of
   candidate-moves v c = go (v.reached && leb 1 v.training.d)
     where
@@ -97,10 +96,10 @@ module _ (s : Settings) (dims : List DimensionInfo) (k w : ℕ) where
       go : (b : Bool) → cond b (from_point dims k p) (walked_of None dims k w) ≡ Ok c → c.next ≡ moved_of c.drawn w
       go true e =
           let u = unmade (after p.drawn) (walked_of (Some p.value) dims k p.next) c e in
-          subst (λ (d : Draw (List ParamValue)). d.next ≡ moved_of d.drawn w) u.2
+          subst (λ (d : Values). d.next ≡ moved_of d.drawn w) u.2
           ((walked-in (Some p.value) dims p.next k u.0 u.1).next ∙ ap (moved_of u.0.drawn) (point-moves v.training s.noise_variance s.n_candidates w) ∙ moves-on p.drawn u.0.drawn w)
       go false e = (walked-in None dims w k c e).next
 
   -- for every argument
-  pub compute-moves : (h : List ℕ) (c : Draw (List ParamValue)) → compute_candidate_of s dims k w h ≡ Ok c → c.next ≡ moved_of c.drawn w
+  pub compute-moves : (h : List ℕ) (c : Values) → compute_candidate_of s dims k w h ≡ Ok c → c.next ≡ moved_of c.drawn w
   compute-moves h c e = candidate-moves (seen_of s.slots s.n_startup_trials dims k h) c (made-by s dims k w h c e).is

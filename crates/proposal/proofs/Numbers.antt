@@ -31,9 +31,8 @@ use Rattle.param_mapping.proofs.Opened.{opened}
 use Rattle.settings.specs.declared.Settings.{Settings}
 use Rattle.settings.specs.Settings.{settings_ok}
 use Rattle.proposal.specs.Points.{fit_for, point_by, point_for}
-use Rattle.rng_util.specs.declared.Draw.{Draw}
-use Rattle.distribution.specs.declared.ParamValue.{ParamValue}
 use Rattle.proposal.specs.Proposal.{candidate_of, compute_candidate_of}
+use Rattle.proposal.specs.Values.{Values}
 
 pub point_few : (t : Training) (noise : Float) (candidates w : ℕ) → candidates ≤ 10000 → t.d ≤ 20 → (point_for t noise candidates w).drawn ≤ 200000
 unfolding point_for
@@ -51,13 +50,13 @@ module _ (s : Settings) (dims : List DimensionInfo) (k w : ℕ) (h : List ℕ) w
   accepted-is o z e = rw (o, ne_eqb w 0 z, view-seen s.slots s.n_startup_trials dims k h (rw e))
 
   -- values that are made: no test failed, of the settings, the word and the history
-  pub record Made (c : Draw (List ParamValue)) : Type 0 where
+  pub record Made (c : Values) : Type 0 where
     pub settings : settings_ok s ≡ true
     pub word : w ≡ 0 → ⊥
     pub asked : asked_of s.slots dims k h ≡ Ok tt
     pub is : candidate_of s dims k w (seen_of s.slots s.n_startup_trials dims k h) ≡ Ok c
 
-  pub made-by : (c : Draw (List ParamValue)) → compute_candidate_of s dims k w h ≡ Ok c → Made c
+  pub made-by : (c : Values) → compute_candidate_of s dims k w h ≡ Ok c → Made c
   unfolding compute_candidate_of
   made-by c = go (settings_ok s) (eqb w 0) (view_of s.slots s.n_startup_trials dims k h) refl refl refl
     where

@@ -53,7 +53,7 @@ use Rattle.settings.specs.declared.Settings.{Settings}
 use Rattle.proposal.specs.Points.{fit_for, point_by, point_for}
 use Rattle.proposal.specs.Proposal.{after, from_point, candidate_of}
 use Rattle.dimensions.specs.Empty.{empty_value}
-use Rattle.proposal.specs.Values.{decode_of, coordinate_of, undrawn, step_of, step_at, walk_more, walk_of, values_in, walked_of}
+use Rattle.proposal.specs.Values.{Values, decode_of, coordinate_of, undrawn, step_of, step_at, walk_more, walk_of, values_in, walked_of}
 use Rattle.proposal.proofs.Moving.{model-columns, point-moves}
 use Rattle.proposal.proofs.Walk.{walked, Step, walked-in, columns-next}
 
@@ -183,8 +183,8 @@ step-ranged d u w r h = go u
 -- ---- the values of a walk
 
 -- an accepted answer of values in range
-pub record Ready (dims : List DimensionInfo) (k : ℕ) (r : Result (Draw (List ParamValue)) Refusal) : Type 0 where
-  pub made : Draw (List ParamValue)
+pub record Ready (dims : List DimensionInfo) (k : ℕ) (r : Result Values Refusal) : Type 0 where
+  pub made : Values
   pub is : r ≡ Ok made
   pub range : (i : ℕ) → i < k → InRange (dimension_at dims i).distribution (get_or made.value i empty_value)
 
@@ -197,7 +197,7 @@ module _ (point : Option (List Float)) (dims : List DimensionInfo) (w : ℕ) (h 
   step-in : (k : ℕ) → Asks k → (i n : ℕ) → i < k → DrawnIn (dimension_at dims i).distribution (step_at point dims i (moved_of n w))
   step-in k a i n l = step-ranged (dimension_at dims i) (coordinate_of point (length (columns_of dims i))) (moved_of n w) (a.formed i l) (moved-nonzero n w h) (a.coordinate i l)
 
-  walk-accepted : (k : ℕ) → Asks k → (b : Draw (List ParamValue)) × (walk_of point dims k w ≡ Ok b)
+  walk-accepted : (k : ℕ) → Asks k → (b : Values) × (walk_of point dims k w ≡ Ok b)
   unfolding walk_of
   walk-accepted zero a = (record { value = []; drawn = 0; next = w }, refl)
   walk-accepted (suc k) a =

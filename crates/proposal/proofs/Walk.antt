@@ -24,7 +24,7 @@ use Rattle.common.proofs.Moves.{Moved, random-moves}
 use Rattle.dimensions.specs.declared.DimensionInfo.{DimensionInfo}
 use Rattle.dimensions.specs.Dimensions.{dimension_at, columns_of}
 use Rattle.dimensions.specs.Empty.{empty_value}
-use Rattle.proposal.specs.Values.{decode_of, undrawn, step_of, step_at, walk_more, walk_of, values_in, walked_of}
+use Rattle.proposal.specs.Values.{Values, decode_of, undrawn, step_of, step_at, walk_more, walk_of, values_in, walked_of}
 
 -- an answer that is made of an accepted one
 pub unmade : {A B : Type 0} (f : A → B) (r : Result A Refusal) (y : B) → made f r ≡ Ok y → (x : A) × (r ≡ Ok x) × (f x ≡ y)
@@ -51,15 +51,15 @@ columns-next dims j = sym (places-next j (λ j. continuous_of (dimension_at dims
 
 module _ (point : Option (List Float)) (dims : List DimensionInfo) (w : ℕ) where
   -- what holds before the first step and is kept by each accepted one holds of an accepted walk
-  pub walk-all : (P : ℕ → Draw (List ParamValue) → Type 0) → P 0 (record { value = []; drawn = 0; next = w })
-      → ((j : ℕ) (b : Draw (List ParamValue)) (r : Draw ParamValue) → walk_of point dims j w ≡ Ok b → P j b → step_at point dims j b.next ≡ Ok r → P (suc j) (walk_more b r))
-      → (j : ℕ) (b : Draw (List ParamValue)) → walk_of point dims j w ≡ Ok b → P j b
+  pub walk-all : (P : ℕ → Values → Type 0) → P 0 (record { value = []; drawn = 0; next = w })
+      → ((j : ℕ) (b : Values) (r : Draw ParamValue) → walk_of point dims j w ≡ Ok b → P j b → step_at point dims j b.next ≡ Ok r → P (suc j) (walk_more b r))
+      → (j : ℕ) (b : Values) → walk_of point dims j w ≡ Ok b → P j b
   unfolding walk_of
   walk-all P z f zero b e = let q : record { value = []; drawn = 0; next = w } ≡ b = cc in subst (P 0) q z
   walk-all P z f (suc j) b e = go (walk-all P z f j) (walk_of point dims j w) refl e
     where
-      go : ((a : Draw (List ParamValue)) → walk_of point dims j w ≡ Ok a → P j a)
-          → (v : Result (Draw (List ParamValue)) Refusal) → walk_of point dims j w ≡ v → and_then v (λ b. made (walk_more b) (step_at point dims j b.next)) ≡ Ok b → P (suc j) b
+      go : ((a : Values) → walk_of point dims j w ≡ Ok a → P j a)
+          → (v : Result Values Refusal) → walk_of point dims j w ≡ v → and_then v (λ b. made (walk_more b) (step_at point dims j b.next)) ≡ Ok b → P (suc j) b
       go before (Ok a) p q = let u = unmade (walk_more a) (step_at point dims j a.next) b q in subst (P (suc j)) u.2 (f j a u.0 p (before a p) u.1)
       go before (Err x) p q = absurd (cc)
 
@@ -70,18 +70,18 @@ module _ (point : Option (List Float)) (dims : List DimensionInfo) (w : ℕ) whe
     pub is : step_at point dims i (moved_of moves w) ≡ Ok draw
     pub value : v ≡ draw.value
 
-  pub record Walked (j : ℕ) (b : Draw (List ParamValue)) : Type 0 where
+  pub record Walked (j : ℕ) (b : Values) : Type 0 where
     pub few : b.drawn ≤ j
     pub next : b.next ≡ moved_of b.drawn w
     pub values : (i : ℕ) → i < j → Step i (get_or b.value i empty_value)
 
-  pub walk-length : (j : ℕ) (b : Draw (List ParamValue)) → walk_of point dims j w ≡ Ok b → length b.value ≡ j
+  pub walk-length : (j : ℕ) (b : Values) → walk_of point dims j w ≡ Ok b → length b.value ≡ j
   walk-length = walk-all (λ j b. length b.value ≡ j) refl (λ j b r e p s. length-append b.value (_ ∷ []) ∙ rw (p, add-one j))
 
-  pub walked : (j : ℕ) (b : Draw (List ParamValue)) → walk_of point dims j w ≡ Ok b → Walked j b
+  pub walked : (j : ℕ) (b : Values) → walk_of point dims j w ≡ Ok b → Walked j b
   walked = walk-all Walked (record { few = omega arith; next = unfold moved_of in refl; values = λ i l. absurd (not-suc-le-zero l) }) more
     where
-      more : (j : ℕ) (b : Draw (List ParamValue)) (r : Draw ParamValue) → walk_of point dims j w ≡ Ok b → Walked j b → step_at point dims j b.next ≡ Ok r → Walked (suc j) (walk_more b r)
+      more : (j : ℕ) (b : Values) (r : Draw ParamValue) → walk_of point dims j w ≡ Ok b → Walked j b → step_at point dims j b.next ≡ Ok r → Walked (suc j) (walk_more b r)
       more j b r e p s =
           let m : Moved b.next (Ok r) = subst (Moved b.next) s (step-moves _ _ b.next) in
           let n = walk-length j b e in
@@ -97,10 +97,10 @@ module _ (point : Option (List Float)) (dims : List DimensionInfo) (w : ℕ) whe
           }
 
   -- the same in an array
-  pub walked-in : (j : ℕ) (c : Draw (List ParamValue)) → walked_of point dims j w ≡ Ok c → Walked j c
+  pub walked-in : (j : ℕ) (c : Values) → walked_of point dims j w ≡ Ok c → Walked j c
   walked-in j c e = let u = unmade values_in (walk_of point dims j w) c e in subst (Walked j) u.2 (in-array u.0 u.1)
     where
-      in-array : (b : Draw (List ParamValue)) → walk_of point dims j w ≡ Ok b → Walked j (values_in b)
+      in-array : (b : Values) → walk_of point dims j w ≡ Ok b → Walked j (values_in b)
       in-array b q =
           let p = walked j b q in
           record {
@@ -110,22 +110,22 @@ module _ (point : Option (List Float)) (dims : List DimensionInfo) (w : ℕ) whe
           }
 
   -- the next value is written behind those before it
-  pub walk-next : (j : ℕ) (c : Draw (List ParamValue)) (r : Draw ParamValue) → j < 20 → walked_of point dims j w ≡ Ok c → step_at point dims j c.next ≡ Ok r
+  pub walk-next : (j : ℕ) (c : Values) (r : Draw ParamValue) → j < 20 → walked_of point dims j w ≡ Ok c → step_at point dims j c.next ≡ Ok r
       → walked_of point dims (suc j) w ≡ Ok (record { value = set c.value j r.value; drawn = c.drawn + r.drawn; next = r.next })
   unfolding walk_of
   walk-next j c r h e = let u = unmade values_in (walk_of point dims j w) c e in subst Next u.2 (one u.0 u.1)
     where
-      Next : Draw (List ParamValue) → Type 0
+      Next : Values → Type 0
       Next d = step_at point dims j d.next ≡ Ok r → walked_of point dims (suc j) w ≡ Ok (record { value = set d.value j r.value; drawn = d.drawn + r.drawn; next = r.next })
 
-      one : (b : Draw (List ParamValue)) → walk_of point dims j w ≡ Ok b → Next (values_in b)
+      one : (b : Values) → walk_of point dims j w ≡ Ok b → Next (values_in b)
       one b q s = rw (q, s, filled-set-at empty_value 20 b.value j r.value (walk-length j b q) h)
 
   -- a refused step refuses what is walked from there on
-  pub walk-stops : (j : ℕ) (c : Draw (List ParamValue)) (x : Refusal) → walked_of point dims j w ≡ Ok c → step_at point dims j c.next ≡ Err x → (n : ℕ) → walk_of point dims (n + suc j) w ≡ Err x
+  pub walk-stops : (j : ℕ) (c : Values) (x : Refusal) → walked_of point dims j w ≡ Ok c → step_at point dims j c.next ≡ Err x → (n : ℕ) → walk_of point dims (n + suc j) w ≡ Err x
   unfolding walk_of
   walk-stops j c x e s zero =
       let u = unmade values_in (walk_of point dims j w) c e in
-      let p : step_at point dims j u.0.next ≡ Err x = ap (λ (d : Draw (List ParamValue)). step_at point dims j d.next) u.2 ∙ s in
+      let p : step_at point dims j u.0.next ≡ Err x = ap (λ (d : Values). step_at point dims j d.next) u.2 ∙ s in
       rw (zero-add, u.1, p)
   walk-stops j c x e s (suc n) = rw (suc-add, walk-stops j c x e s n)

@@ -37,7 +37,7 @@ use Rattle.history_view.proofs.Values.{floats-fit, bounds-shape}
 use Rattle.settings.specs.declared.Settings.{Settings}
 use Rattle.proposal.specs.Points.{fit_for, point_by, point_for}
 use Rattle.proposal.specs.Proposal.{after, from_point, candidate_of, compute_candidate_of}
-use Rattle.proposal.specs.Values.{decode_of, coordinate_of, undrawn, step_of, step_at, walk_more, walk_of, values_in, walked_of}
+use Rattle.proposal.specs.Values.{Values, decode_of, coordinate_of, undrawn, step_of, step_at, walk_more, walk_of, values_in, walked_of}
 use Rattle.proposal.proofs.Moving.{point-moves}
 use Rattle.proposal.proofs.Numbers.{made-by}
 use Rattle.proposal.proofs.Walk.{unmade, walk-all, walked, columns-next}
@@ -77,15 +77,15 @@ one_more true false drawn x columns next j p q e = omega arith
 one_more false continuous drawn x columns next j p q e = omega arith
 
 -- of the first j dimensions of k
-abbrev Words : Option (List Float) → List DimensionInfo → ℕ → ℕ → Draw (List ParamValue) → Type 0
+abbrev Words : Option (List Float) → List DimensionInfo → ℕ → ℕ → Values → Type 0
 Words point dims k j b = j ≤ k → b.drawn + cond (given point) (length (columns_of dims j)) 0 ≡ j
 
 walk-words : (point : Option (List Float)) (dims : List DimensionInfo) (w : ℕ) → Nonzero w → (k : ℕ) → ((i : ℕ) → i < k → Drawable (dimension_at dims i).distribution)
-    → (c : Draw (List ParamValue)) → walked_of point dims k w ≡ Ok c → c.drawn + cond (given point) (length (columns_of dims k)) 0 ≡ k
+    → (c : Values) → walked_of point dims k w ≡ Ok c → c.drawn + cond (given point) (length (columns_of dims k)) 0 ≡ k
 unfolding columns_of places_of
 walk-words point dims w n k r c e =
     let u = unmade values_in (walk_of point dims k w) c e in
-    ap (λ (d : Draw (List ParamValue)). d.drawn + cond (given point) (length (columns_of dims k)) 0) (sym u.2) ∙ walk-all point dims w (Words point dims k) none more k u.0 u.1 (le_refl k)
+    ap (λ (d : Values). d.drawn + cond (given point) (length (columns_of dims k)) 0) (sym u.2) ∙ walk-all point dims w (Words point dims k) none more k u.0 u.1 (le_refl k)
   where
     none : Words point dims k 0 (record { value = []; drawn = 0; next = w })
     none l = go (given point)
@@ -98,7 +98,7 @@ walk-words point dims w n k r c e =
     coordinates (Some x) c = refl
     coordinates None c = refl
 
-    more : (j : ℕ) (b : Draw (List ParamValue)) (r : Draw ParamValue) → walk_of point dims j w ≡ Ok b → Words point dims k j b → step_at point dims j b.next ≡ Ok r → Words point dims k (suc j) (walk_more b r)
+    more : (j : ℕ) (b : Values) (r : Draw ParamValue) → walk_of point dims j w ≡ Ok b → Words point dims k j b → step_at point dims j b.next ≡ Ok r → Words point dims k (suc j) (walk_more b r)
     more j b x e p s l =
         let u = coordinate_of point (length (columns_of dims j)) in
         let m : Nonzero b.next = subst Nonzero (sym (walked point dims w j b e).next) (moved-nonzero b.drawn w n) in
@@ -114,12 +114,12 @@ module _ (s : Settings) (dims : List DimensionInfo) (k w : ℕ) (n : Nonzero w) 
   abbrev words : Training → Bool → ℕ
   words t made = cond (made && is_ok (fit_for t s.noise_variance)) (s.n_candidates * columns + (k - columns)) k
 
-  point-words : (t : Training) → t.d ≡ columns → (c : Draw (List ParamValue)) → from_point dims k (point_for t s.noise_variance s.n_candidates w) ≡ Ok c → c.drawn ≡ words t true
+  point-words : (t : Training) → t.d ≡ columns → (c : Values) → from_point dims k (point_for t s.noise_variance s.n_candidates w) ≡ Ok c → c.drawn ≡ words t true
   point-words t e c q =
       let p = point_for t s.noise_variance s.n_candidates w in
       let m : Nonzero p.next = subst Nonzero (sym (point-moves t s.noise_variance s.n_candidates w)) (moved-nonzero p.drawn w n) in
       let u = unmade (after p.drawn) (walked_of (Some p.value) dims k p.next) c q in
-      ap (λ (d : Draw (List ParamValue)). d.drawn) (sym u.2)
+      ap (λ (d : Values). d.drawn) (sym u.2)
       ∙ sum (is_ok (fit_for t s.noise_variance)) p.drawn u.0.drawn (s.n_candidates * columns) drawn (walk-words (Some p.value) dims p.next m k ready u.0 u.1)
     where
       drawn : (point_for t s.noise_variance s.n_candidates w).drawn ≡ cond (is_ok (fit_for t s.noise_variance)) (s.n_candidates * columns) columns
@@ -133,7 +133,7 @@ module _ (s : Settings) (dims : List DimensionInfo) (k w : ℕ) (n : Nonzero w) 
       sum true x y m p q = omega arith
       sum false x y m p q = omega arith
 
-  candidate-words : (v : View) → v.training.d ≡ columns → (c : Draw (List ParamValue)) → candidate_of s dims k w v ≡ Ok c → c.drawn ≡ words v.training (v.reached && leb 1 v.training.d)
+  candidate-words : (v : View) → v.training.d ≡ columns → (c : Values) → candidate_of s dims k w v ≡ Ok c → c.drawn ≡ words v.training (v.reached && leb 1 v.training.d)
   unfolding candidate_of
   candidate-words v e c = go (v.reached && leb 1 v.training.d)
     where
@@ -155,7 +155,7 @@ module _ (s : Settings) (dims : List DimensionInfo) (k w : ℕ) (h : List ℕ) w
   unfolding dimension_ok
   drawable t held i l = let d = dimension_at dims i in (floats-fit d.distribution (held i l), bounds-shape d.distribution d.lo d.hi ((dimensions-ok dims k t).1 i l))
 
-  pub compute-words : w < 2 ^ 64 → ((i : ℕ) → i < k → Held (dimension_at dims i).distribution) → (c : Draw (List ParamValue)) → compute_candidate_of s dims k w h ≡ Ok c
+  pub compute-words : w < 2 ^ 64 → ((i : ℕ) → i < k → Held (dimension_at dims i).distribution) → (c : Values) → compute_candidate_of s dims k w h ≡ Ok c
       → c.drawn
       ≡ cond ((view.reached && leb 1 view.training.d) && is_ok (fit_for view.training s.noise_variance)) (s.n_candidates * length (columns_of dims k) + (k - length (columns_of dims k))) k
   compute-words small held c e =

@@ -27,13 +27,19 @@ coordinate_of None c = None
 abbrev pub undrawn : ℕ → ParamValue → Draw ParamValue
 undrawn w v = record { value = v; drawn = 0; next = w }
 
--- a dimension's value at a generator word: a continuous dimension's is the decoding of its coordinate, where there is one; any other is random
+-- a dimension's value at a generator word: a continuous dimension's is the decoding of its coordinate, where there is
+-- one; any other is random
 unfoldable pub step_of : DimensionInfo → Option Float → ℕ → Result (Draw ParamValue) Refusal
-step_of d (Some u) w = cond (continuous_of d.distribution) (made (undrawn w) (decode_of d u)) (sample_random_of w d.distribution)
+step_of d (Some u) w =
+    cond (continuous_of d.distribution) (made (undrawn w) (decode_of d u)) (sample_random_of w d.distribution)
 step_of d None w = sample_random_of w d.distribution
 
+-- the values of some dimensions
+abbrev pub Values : Type 0
+Values = Draw (List ParamValue)
+
 -- one value more
-abbrev pub walk_more : Draw (List ParamValue) → Draw ParamValue → Draw (List ParamValue)
+abbrev pub walk_more : Values → Draw ParamValue → Values
 walk_more b r = record { value = b.value ++ (r.value ∷ []); drawn = b.drawn + r.drawn; next = r.next }
 
 -- the step of dimension j; the coordinates of the point are those of the continuous dimensions in order
@@ -41,14 +47,15 @@ abbrev pub step_at : Option (List Float) → List DimensionInfo → ℕ → ℕ 
 step_at point dims j w = step_of (dimension_at dims j) (coordinate_of point (length (columns_of dims j))) w
 
 -- the first j dimensions, one after the other; a refused one refuses them all
-unfoldable pub walk_of : Option (List Float) → List DimensionInfo → ℕ → ℕ → Result (Draw (List ParamValue)) Refusal
+unfoldable pub walk_of : Option (List Float) → List DimensionInfo → ℕ → ℕ → Result Values Refusal
 unfolding step_of
 walk_of point dims zero w = Ok (record { value = []; drawn = 0; next = w })
-walk_of point dims (suc j) w = and_then (walk_of point dims j w) (λ b. made (walk_more b) (step_at point dims j b.next))
+walk_of point dims (suc j) w =
+    and_then (walk_of point dims j w) (λ b. made (walk_more b) (step_at point dims j b.next))
 
 -- in an array of 20
-abbrev pub values_in : Draw (List ParamValue) → Draw (List ParamValue)
+abbrev pub values_in : Values → Values
 values_in b = record { value = filled empty_value 20 b.value; drawn = b.drawn; next = b.next }
 
-abbrev pub walked_of : Option (List Float) → List DimensionInfo → ℕ → ℕ → Result (Draw (List ParamValue)) Refusal
+abbrev pub walked_of : Option (List Float) → List DimensionInfo → ℕ → ℕ → Result Values Refusal
 walked_of point dims j w = made values_in (walk_of point dims j w)

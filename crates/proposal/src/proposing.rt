@@ -65,7 +65,8 @@ fn takes(s: Settings, word: u64) -> bool
     settings::in_range(s) && word != 0
 }
 
-// The values of a new trial at a generator word: from a model of the history where its rows reach start-up and a dimension is continuous, else at random.
+// The values of a new trial at a generator word: from a model of the history where its rows reach start-up and a
+// dimension is continuous, else at random.
 #[tactic(auto, using(crate::proofs::Numbers::candidate_asks), unfolding(crate::specs::Proposal::compute_candidate_of))]
 pub fn compute_candidate(
     s: Settings,
