@@ -38,7 +38,8 @@ abbrev pub log_float : FloatDistribution → Float → ParamValue
 log_float d v = ParamValue.Float (cond d.stepped (clamp_of d.low d.high (float_grid d v)) v)
 
 unfoldable pub log_float_random : ℕ → FloatDistribution → Result (Draw ParamValue) Refusal
-log_float_random w d = drawing (λ u. made (log_float d) (log_range (ends_of (Distribution.Float d)) u)) (unit_draw_of w)
+log_float_random w d =
+    drawing (λ u. made (log_float d) (log_range (ends_of (Distribution.Float d)) u)) (unit_draw_of w)
 
 -- "let n_steps = ((d.high - d.low) / step).floor() as i64; let k = rng.i64(0..=n_steps); d.low + (k as f64) * step"
 unfoldable pub stepped_float_random : ℕ → FloatDistribution → Result (Draw ParamValue) Refusal
@@ -51,21 +52,26 @@ linear_float_random w low high = read_by (λ u. ParamValue.Float (range_of low h
 
 unfoldable pub float_random : ℕ → FloatDistribution → Result (Draw ParamValue) Refusal
 unfolding log_float_random stepped_float_random linear_float_random
-float_random w d = cond d.log_scale (log_float_random w d) (cond d.stepped (stepped_float_random w d) (linear_float_random w d.low d.high))
+float_random w d =
+    cond d.log_scale (log_float_random w d)
+    (cond d.stepped (stepped_float_random w d) (linear_float_random w d.low d.high))
 
 unfoldable pub log_int_random : ℕ → IntDistribution → Result (Draw ParamValue) Refusal
 log_int_random w d = drawing (λ u. made (int_of d) (log_range (ends_of (Distribution.Int d)) u)) (unit_draw_of w)
 
 -- "let n_steps = (d.high - d.low) / step; let k = rng.i64(0..=n_steps); d.low + k * step"
 unfoldable pub stepped_int_random : ℕ → ℤ → ℤ → ℤ → Result (Draw ParamValue) Refusal
-stepped_int_random w low high step = read_by (λ k. ParamValue.Int (low +ℤ k *ℤ step)) (whole_draw_of w (pos 0) (quot_z (high -ℤ low) step))
+stepped_int_random w low high step =
+    read_by (λ k. ParamValue.Int (low +ℤ k *ℤ step)) (whole_draw_of w (pos 0) (quot_z (high -ℤ low) step))
 
 unfoldable pub linear_int_random : ℕ → ℤ → ℤ → Result (Draw ParamValue) Refusal
 linear_int_random w low high = read_by (λ k. ParamValue.Int k) (whole_draw_of w low high)
 
 unfoldable pub int_random : ℕ → IntDistribution → Result (Draw ParamValue) Refusal
 unfolding log_int_random stepped_int_random linear_int_random
-int_random w d = cond d.log_scale (log_int_random w d) (cond d.stepped (stepped_int_random w d.low d.high d.step) (linear_int_random w d.low d.high))
+int_random w d =
+    cond d.log_scale (log_int_random w d)
+    (cond d.stepped (stepped_int_random w d.low d.high d.step) (linear_int_random w d.low d.high))
 
 -- a choice below the count
 unfoldable pub categorical_random : ℕ → ℕ → Result (Draw ParamValue) Refusal
