@@ -7,13 +7,14 @@ ghost use Rattle.history_view.specs.View.{view_of};
 use crate::View;
 use dimensions::Dimensions;
 use refusal::Refusal;
+use slots::{ROW_HEAD, SLOT_WORDS};
 
 // The view of a history: whether all its rows reach the start-up count, and its training data.
 pub fn view_of(slots: usize, startup: u64, dims: Dimensions, h: &[u64]) -> Result<View, Refusal>
     ensures { result ≡ view_of slots startup dims.list dims.count h.now }
 {
     let training = history::build_training_data(slots, dims, h)?;
-    let rows = h.len() / (3 + 8 * slots);
+    let rows = h.len() / (ROW_HEAD + SLOT_WORDS * slots);
     Ok(View {
         reached: startup <= rows as u64,
         training,

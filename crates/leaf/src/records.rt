@@ -9,6 +9,7 @@ use crate::reply::{Failure, Reply, Results, Written, outcome, put};
 use dimensions::{DimensionInfo, Dimensions};
 use distribution::{CategoricalDistribution, Distribution};
 use history::Training;
+use slots::{ROW_HEAD, SLOT_WORDS};
 
 // What `mapping` and `training` read: the number of slots, the dimensions and a history.
 #[derive(Clone, Copy)]
@@ -29,7 +30,10 @@ pub(crate) fn history(args: &[u64], results: &mut Results) -> Reply {
     if slots > 20 {
         return Err(Failure::Unreadable);
     }
-    put([(h.len() / (3 + 8 * slots)) as u64], results)
+    put(
+        [(h.len() / (ROW_HEAD + SLOT_WORDS * slots)) as u64],
+        results,
+    )
 }
 
 // What stands past the dimensions: a choice of one.

@@ -8,6 +8,7 @@ ghost use Rattle.history_rows.specs.Rows.{width_of, row_at};
 use dimensions::Dimensions;
 use distribution::Distribution;
 use refusal::Refusal;
+use slots::{ROW_HEAD, SLOT_WORDS};
 
 // Whether that is the id of a dimension.
 fn is_mapped(id: u64, m: Option<u64>) -> bool
@@ -65,8 +66,8 @@ fn first_entry(n: usize, row: &[u64], before: &[Option<u64>], d: Distribution) -
 {
     let mut best = None;
     for s in 0..n {
-        let at = 3 + 8 * s;
-        best = better(before, d, &row[at..at + 8], best);
+        let at = ROW_HEAD + SLOT_WORDS * s;
+        best = better(before, d, &row[at..at + SLOT_WORDS], best);
     }
     best
 }
@@ -92,7 +93,7 @@ fn recent_mapping(n: usize, dims: &Dimensions, m: usize, r: &[u64]) -> [Option<u
     if m == 0 {
         return [None; 20];
     }
-    mapped(n, dims, &r[..3 + 8 * n])
+    mapped(n, dims, &r[..ROW_HEAD + SLOT_WORDS * n])
 }
 
 // The dimensions, and then the history's tests.

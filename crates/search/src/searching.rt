@@ -88,7 +88,7 @@ pub fn optimize_acquisition(
     let best_x = halves(m.d);
     let start = Search {
         word,
-        best_ei: -1.0 / 0.0,
+        best_ei: f64::NEG_INFINITY,
         best_x,
     };
     let lent = Lent {
