@@ -14,10 +14,7 @@ use slots::{ROW_HEAD, SLOT_WORDS};
 fn is_mapped(id: u64, m: Option<u64>) -> bool
     ensures { result ≡ is_mapped id m }
 {
-    match m {
-        Some(found) => found == id,
-        None => false,
-    }
+    m == Some(id)
 }
 
 // Whether one of the dimensions before this one consumed the id.

@@ -37,10 +37,7 @@ pub fn read(slot: &[u64]) -> Option<Distribution>
 fn taken_read(read: Option<Distribution>, word: u64) -> bool
     ensures { result ≡ taken_read read word }
 {
-    match read {
-        Some(d) => distribution::taken_rule(d, distribution::value_of_word(d, word)),
-        None => false,
-    }
+    read.is_some_and(|d| distribution::taken_rule(d, distribution::value_of_word(d, word)))
 }
 
 // A word as a value of what was read.
