@@ -18,40 +18,45 @@ pub struct Generator {
     pub word: u64,
 }
 
+// Moved on by a draw at its word.
+fn moved<T: Copy>(g: &mut Generator, draw: Result<Draw<T>, Refusal>) -> Result<Draw<T>, Refusal>
+    ensures { (result ≡ draw) × (g.new.word ≡ word_after g.old.word draw) }
+{
+    let d = draw?;
+    g.word = d.next;
+    Ok(d)
+}
+
 // The next word.
 pub fn next_word(g: &mut Generator) -> Result<Draw<u64>, Refusal>
     ensures { (result ≡ word_draw_of g.old.word) × (g.new.word ≡ word_after g.old.word result) }
 {
-    let d = rng_util::next_word(g.word)?;
-    g.word = d.next;
-    Ok(d)
+    let draw = rng_util::next_word(g.word);
+    moved(g, draw)
 }
 
 // A unit float.
 pub fn unit_float(g: &mut Generator) -> Result<Draw<f64>, Refusal>
     ensures { (result ≡ unit_draw_of g.old.word) × (g.new.word ≡ word_after g.old.word result) }
 {
-    let d = rng_util::unit_float(g.word)?;
-    g.word = d.next;
-    Ok(d)
+    let draw = rng_util::unit_float(g.word);
+    moved(g, draw)
 }
 
 // A whole number in a..=b.
 pub fn whole_number(g: &mut Generator, a: i64, b: i64) -> Result<Draw<i64>, Refusal>
     ensures { (result ≡ whole_draw_of g.old.word a b) × (g.new.word ≡ word_after g.old.word result) }
 {
-    let d = rng_util::whole_number(g.word, a, b)?;
-    g.word = d.next;
-    Ok(d)
+    let draw = rng_util::whole_number(g.word, a, b);
+    moved(g, draw)
 }
 
 // A random value of a distribution.
 pub fn sample_random(g: &mut Generator, d: Distribution) -> Result<Draw<ParamValue>, Refusal>
     ensures { (result ≡ sample_random_of g.old.word d) × (g.new.word ≡ word_after g.old.word result) }
 {
-    let a = common::sample_random(g.word, d)?;
-    g.word = a.next;
-    Ok(a)
+    let draw = common::sample_random(g.word, d);
+    moved(g, draw)
 }
 
 // The point of highest expected improvement, of n_candidates points drawn.

@@ -21,6 +21,7 @@ use Rattle.common.specs.Random.{sample_random_of}
 use Rattle.encoding.proofs.EndLaws.{FloatsFit}
 use Rattle.common.proofs.Facts.{random-accepted}
 use Rattle.std.specs.Prelude.{Option, Some, None, Result, Ok, Err, is_ok}
+use Rattle.std.specs.Option.{is_some}
 use Rattle.refusal.specs.declared.Refusal.{Refusal}
 use Rattle.gp_model.specs.declared.Model.{Model}
 use Rattle.dimensions.specs.declared.DimensionInfo.{DimensionInfo}
@@ -50,12 +51,7 @@ Drawable d = FloatsFit d × T (shape_of d)
 pub random-word : (w : ℕ) (d : Distribution) → Nonzero w → Drawable d → drawn_by (sample_random_of w d) ≡ 1
 random-word w d n r = ap drawn_by (random-accepted w d n r.0 r.1).is
 
--- whether a dimension's value is decoded from a point
-abbrev given : {A : Type 0} → Option A → Bool
-given (Some x) = true
-given None = false
-
-step-word : (d : DimensionInfo) (u : Option Float) (w : ℕ) (r : Draw ParamValue) → Nonzero w → Drawable d.distribution → step_of d u w ≡ Ok r → r.drawn ≡ cond (given u && continuous_of d.distribution) 0 1
+step-word : (d : DimensionInfo) (u : Option Float) (w : ℕ) (r : Draw ParamValue) → Nonzero w → Drawable d.distribution → step_of d u w ≡ Ok r → r.drawn ≡ cond (is_some u && continuous_of d.distribution) 0 1
 unfolding step_of
 step-word d u w r n f = go u
   where
@@ -66,7 +62,7 @@ step-word d u w r n f = go u
     some x true e = ap (λ (r : Draw ParamValue). r.drawn) (sym (unmade (undrawn w) (decode_of d x) r e).2)
     some x false e = random e
 
-    go : (u : Option Float) → step_of d u w ≡ Ok r → r.drawn ≡ cond (given u && continuous_of d.distribution) 0 1
+    go : (u : Option Float) → step_of d u w ≡ Ok r → r.drawn ≡ cond (is_some u && continuous_of d.distribution) 0 1
     go None e = random e
     go (Some x) e = some x (continuous_of d.distribution) e
 
@@ -78,23 +74,23 @@ one_more false continuous drawn x columns next j p q e = omega arith
 
 -- of the first j dimensions of k
 abbrev Words : Option (List Float) → List DimensionInfo → ℕ → ℕ → Values → Type 0
-Words point dims k j b = j ≤ k → b.drawn + cond (given point) (length (columns_of dims j)) 0 ≡ j
+Words point dims k j b = j ≤ k → b.drawn + cond (is_some point) (length (columns_of dims j)) 0 ≡ j
 
 walk-words : (point : Option (List Float)) (dims : List DimensionInfo) (w : ℕ) → Nonzero w → (k : ℕ) → ((i : ℕ) → i < k → Drawable (dimension_at dims i).distribution)
-    → (c : Values) → walked_of point dims k w ≡ Ok c → c.drawn + cond (given point) (length (columns_of dims k)) 0 ≡ k
+    → (c : Values) → walked_of point dims k w ≡ Ok c → c.drawn + cond (is_some point) (length (columns_of dims k)) 0 ≡ k
 unfolding columns_of places_of
 walk-words point dims w n k r c e =
     let u = unmade values_in (walk_of point dims k w) c e in
-    ap (λ (d : Values). d.drawn + cond (given point) (length (columns_of dims k)) 0) (sym u.2) ∙ walk-all point dims w (Words point dims k) none more k u.0 u.1 (le_refl k)
+    ap (λ (d : Values). d.drawn + cond (is_some point) (length (columns_of dims k)) 0) (sym u.2) ∙ walk-all point dims w (Words point dims k) none more k u.0 u.1 (le_refl k)
   where
     none : Words point dims k 0 (record { value = []; drawn = 0; next = w })
-    none l = go (given point)
+    none l = go (is_some point)
       where
         go : (g : Bool) → 0 + cond g 0 0 ≡ 0
         go true = refl
         go false = refl
 
-    coordinates : (o : Option (List Float)) (c : ℕ) → given (coordinate_of o c) ≡ given o
+    coordinates : (o : Option (List Float)) (c : ℕ) → is_some (coordinate_of o c) ≡ is_some o
     coordinates (Some x) c = refl
     coordinates None c = refl
 
@@ -102,7 +98,7 @@ walk-words point dims w n k r c e =
     more j b x e p s l =
         let u = coordinate_of point (length (columns_of dims j)) in
         let m : Nonzero b.next = subst Nonzero (sym (walked point dims w j b e).next) (moved-nonzero b.drawn w n) in
-        one_more (given point) (continuous_of (dimension_at dims j).distribution) b.drawn x.drawn (length (columns_of dims j)) (length (columns_of dims (suc j))) j (p (omega arith))
+        one_more (is_some point) (continuous_of (dimension_at dims j).distribution) b.drawn x.drawn (length (columns_of dims j)) (length (columns_of dims (suc j))) j (p (omega arith))
         (step-word (dimension_at dims j) u b.next x m (r j (omega arith)) s ∙ ap (λ (g : Bool). cond (g && continuous_of (dimension_at dims j).distribution) 0 1) (coordinates point (length (columns_of dims j)))) (columns-next dims j)
 
 -- ---- by a view whose training data have a column for each continuous dimension
