@@ -82,15 +82,12 @@ abbrev pub stored_ok : Distribution → ParamValue → Bool
 stored_ok (Distribution.Float d) (ParamValue.Float v) = float_taken d.log_scale v
 stored_ok (Distribution.Float d) (ParamValue.Int z) = false
 stored_ok (Distribution.Float d) (ParamValue.Categorical i) = false
-stored_ok (Distribution.Float d) (ParamValue.Refused n) = false
 stored_ok (Distribution.Int d) (ParamValue.Float v) = false
 stored_ok (Distribution.Int d) (ParamValue.Int z) = le_z d.low z && le_z z d.high
 stored_ok (Distribution.Int d) (ParamValue.Categorical i) = false
-stored_ok (Distribution.Int d) (ParamValue.Refused n) = false
 stored_ok (Distribution.Categorical d) (ParamValue.Float v) = false
 stored_ok (Distribution.Categorical d) (ParamValue.Int z) = false
 stored_ok (Distribution.Categorical d) (ParamValue.Categorical i) = ltb i d.n_choices
-stored_ok (Distribution.Categorical d) (ParamValue.Refused n) = false
 
 abbrev pub stored_at : Place → ℕ → ParamValue
 stored_at p j = get_or p.values j empty_value
