@@ -14,7 +14,6 @@ use Rattle.std.specs.Prelude.{Some, Result, Ok, Err, is_ok}
 use Rattle.refusal.specs.declared.Refusal.{Refusal}
 use Rattle.rng_util.specs.declared.Draw.{Draw}
 use Rattle.distribution.specs.declared.ParamValue.{ParamValue}
-use Rattle.distribution.specs.declared.Distribution.{Distribution}
 use Rattle.distribution.proofs.Facts.{parts}
 use Rattle.proposal.specs.Proposal.{compute_candidate_of}
 use Rattle.proposal.proofs.Decoded.{Decodes, stores-earliest}

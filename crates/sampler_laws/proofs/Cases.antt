@@ -88,10 +88,10 @@ Run =
     × (closed.answer ≡ Ok (record { value = None; drawn = 0 }))
     × (taken_count closed.sampler.places ≡ 0)
     -- the discovery trial has no place; a malformed distribution; words that are no whole row; a zero generator word
-    × (close_of second.sampler 7 ≡ refused_of second.sampler UnknownTrial)
-    × (sample_of fresh 0 0 0 0 0 0 7 [] ≡ refused_of fresh Malformed)
-    × (sample_of fresh 3 5 0 0 0 0 7 (0 ∷ []) ≡ refused_of fresh BrokenRows)
-    × (choice (with_word fresh 0) 7 ≡ refused_of (with_word fresh 0) OutOfDomain)
+    × ((close_of second.sampler 7).answer ≡ Err UnknownTrial)
+    × ((sample_of fresh 0 0 0 0 0 0 7 []).answer ≡ Err Malformed)
+    × ((sample_of fresh 3 5 0 0 0 0 7 (0 ∷ [])).answer ≡ Err BrokenRows)
+    × ((choice (with_word fresh 0) 7).answer ≡ Err OutOfDomain)
 
 run : Run
 unfolding sample_of close_of discover_of serving_of active_of served_of trial_place free_place spot_for taken_count place_ok trials_once sampler_ok settings_ok candidate_of compute_candidate_of step_of walk_of view_of training_of recent_training asked_of dimension_ok dimensions_ok columns_of whole_rows row_count recent_count recent_of recent_tests check_of bounds_of ends_of sample_random_of random_of int_random linear_int_random categorical_random shape_of int_shape int_step categorical_shape read_of checked_of int_read categorical_read word_draw_of whole_draw_of whole_of range_ok step every grown place_of places_of of_bits to_bits of_int le lt eq neg

@@ -14,7 +14,7 @@ use lib.Ieee.Bits.{of_bits-fits}
 use lib.Ieee.Fits.{and_i, and_l, and_r}
 use Rattle.arith.specs.Lists.{every}
 use Rattle.arith.proofs.Lists.{each-every}
-use Rattle.arith.proofs.Tests.{untaken, equal_or_not, or_left, or_right, or_split}
+use Rattle.arith.proofs.Tests.{untaken, equal_or_not, or_left}
 use Rattle.rng_util.proofs.Nonzero.{Nonzero, nonzero-test}
 use Rattle.distribution.specs.declared.Distribution.{Distribution}
 use Rattle.distribution_words.specs.RoundTrip.{Held}
@@ -29,7 +29,7 @@ use Rattle.sampler_state.specs.declared.Place.{Place}
 use Rattle.sampler_state.specs.declared.Sampler.{Sampler}
 use Rattle.sampler_laws.specs.Calls.{with_word, with_place, activated, with_dimension}
 use Rattle.sampler_laws.specs.Laws.{Typed}
-use Rattle.sampler_state.specs.State.{place_at, taken, progress_ok, place_ok}
+use Rattle.sampler_state.specs.State.{place_at, progress_ok, place_ok}
 use Rattle.sampler_laws.proofs.Parts.{Checked, Well, ready}
 use Rattle.sampler_state.proofs.Held.{Once, each_set}
 

@@ -2,7 +2,7 @@
 use Prim.Native.Nat.{ℕ, ◌*◌, ◌/◌, ◌%◌, ◌<◌}
 use native.Mathlib.Nat.{zero-sub, zero-mod, zero-div}
 use native.Mathlib.Omega.{arith}
-use mathlib.Core.Path.{◌≡◌, refl, sym, ap, ◌∙◌, subst}
+use mathlib.Core.Path.{◌≡◌, refl, ap, ◌∙◌}
 use mathlib.Core.Bool.{Bool, true, false, cond}
 use mathlib.Core.List.{List, [], ◌∷◌}
 use lib.Dec.{T, leb, leb→le}
@@ -16,7 +16,6 @@ use Rattle.distribution.specs.declared.Distribution.{Distribution}
 use Rattle.distribution.specs.declared.ParamValue.{ParamValue}
 use Rattle.distribution.specs.Taken.{taken_of}
 use Rattle.distribution.proofs.Facts.{parts}
-use Rattle.common.specs.Random.{sample_random_of}
 use Rattle.history_view.specs.declared.View.{View}
 use Rattle.dimensions.specs.declared.DimensionInfo.{DimensionInfo}
 use Rattle.dimensions.specs.Dimensions.{dimension_at, dimensions_ok}
@@ -131,8 +130,7 @@ module _ (settings : Settings) (dims : List DimensionInfo) (k word : ℕ) (g : R
   -- a new trial's values are made and in range
   pub values-made : InRanges dims k (compute_candidate_of settings dims k word h)
   values-made =
-      let m = candidate-ranged settings dims k word view g.nonzero (λ _. view-columns settings dims k word h asked) g.formed in
-      (
+      let m = candidate-ranged settings dims k word view g.nonzero (λ _. view-columns settings dims k word h asked) g.formed in (
         m.made,
         accepted-is settings dims k word h (is_true (settings_ok settings) g.settings-ok) (λ z. let l = g.nonzero.0 in omega arith) asked ∙ m.is,
         λ j l. stored_ok_lem (dimension_at dims j).distribution _ (m.range j l),

@@ -69,7 +69,7 @@ module _ (settings : Settings) (dims : List DimensionInfo) (k word : ℕ) (p : O
   served = serving_of settings dims k word p d trial h
 
   -- what holds of each way holds of the serving: a stored value, a draw past the last, or a new trial
-  by-serving : (P : Result Serving Refusal → Type 0) → ((q : Place) → p ≡ Some q → q.next_dim < k → P (Ok (next_of word q))) → ((q : Place) → p ≡ Some q → k ≤ q.next_dim → P (past_of word q d))
+  pub by-serving : (P : Result Serving Refusal → Type 0) → ((q : Place) → p ≡ Some q → q.next_dim < k → P (Ok (next_of word q))) → ((q : Place) → p ≡ Some q → k ≤ q.next_dim → P (past_of word q d))
       → (p ≡ None → P (new_trial_of settings dims k word trial h)) → P served
   unfolding serving_of
   by-serving P next past new = go p refl

@@ -55,10 +55,10 @@ parts-ok s o =
 
 -- a sampler with a taken place is active
 pub taken-active : (s : Sampler) → T (sampler_ok s) → (i : ℕ) → i < 32 → T (taken (place_at s.places i)) → s.active ≡ true
+unfolding place_ok
 taken-active s t i l = go (place_at s.places i) ((ok-parts s t).places i l)
   where
     go : (p : Option Place) → T (place_ok s.active s.dimensions s.n_dims p) → T (taken p) → s.active ≡ true
-    unfolding place_ok
     go (Some q) o h = is_true s.active (and_l s.active _ o)
     go None o h = absurd h
 

@@ -34,7 +34,7 @@ use Rattle.sampler_laws.specs.Calls.{active_of, served_of, sample_of}
 use Rattle.sampler_laws.specs.Laws.{PlacesCounted}
 use Rattle.sampler_laws.specs.NewTrials.{past_discovery, new_trial, served_history}
 use Rattle.sampler_laws.specs.Runs.{Asked, asks, closes, call_of}
-use Rattle.sampler_laws.proofs.Others.{Other, made-other, then-other, random-other, walked-other}
+use Rattle.sampler_laws.proofs.Others.{Other, fine, domain, made-other, then-other, random-other, walked-other}
 use Rattle.sampler_laws.proofs.OneTrial.{by-serving, serves-own}
 use Rattle.sampler_laws.proofs.Parts.{taken-active}
 use Rattle.sampler_laws.proofs.Ways.{read_asked, Refusing, malformed-sampler, malformed-asked, bad-history, no-dimension, no-draw, no_place, no-values, by-sample, by-close}
@@ -64,7 +64,7 @@ module _ (s : Sampler) (n : length s.places ≡ 32) where
 -- the history's refusal is not 9
 skips : (b : Bool) (rest : Result Unit Refusal) (r : Refusal) → (cause_number r ≡ 9 → ⊥) → Other rest → Other (cond b rest (Err r))
 skips true rest r n o = o
-skips false rest r n o = n
+skips false rest r n o = record { no = n }
 
 history-other : (n : ℕ) (h : List ℕ) → Other (check_of n h)
 unfolding check_of recent_tests
@@ -74,7 +74,7 @@ history-other n h =
     (skips (every_recent n h row_ok) _ Objective (λ z. omega arith)
     (skips (every_recent n h (slots_ok n)) _ Slot (λ z. omega arith)
     (skips (every_recent n h (ids_once n)) _ RepeatedId (λ z. omega arith)
-    (skips (every_recent n h (λ a. every_recent n h (rows_agreeing n a))) (Ok tt) UnequalId (λ z. omega arith) (λ z. omega arith))))))
+    (skips (every_recent n h (λ a. every_recent n h (rows_agreeing n a))) (Ok tt) UnequalId (λ z. omega arith) (fine tt))))))
 
 -- nor is a new trial's
 candidate-other : (s : Settings) (dims : List DimensionInfo) (k w : ℕ) (h : List ℕ) → Other (compute_candidate_of s dims k w h)
@@ -82,9 +82,9 @@ unfolding compute_candidate_of candidate_of asked_of
 candidate-other s dims k w h =
     by-test Other (settings_ok s && not (eqb w 0)) _ _
     (λ _. then-other (view_of s.slots s.n_startup_trials dims k h) (candidate_of s dims k w)
-    (λ e. skips (dimensions_ok dims k) (check_of s.slots h) OutOfDomain (λ z. omega arith) (history-other s.slots h) (sym (view-number s.slots s.n_startup_trials dims k h) ∙ e))
+    (record { no = λ e. (skips (dimensions_ok dims k) (check_of s.slots h) OutOfDomain (λ z. omega arith) (history-other s.slots h)).no (sym (view-number s.slots s.n_startup_trials dims k h) ∙ e) })
     (λ v. by-test Other (v.reached && leb 1 v.training.d) _ _ (λ _. made-other _ _ (walked-other _ dims k _)) (λ _. walked-other None dims k w)))
-    (λ _ z. omega arith)
+    (λ _. domain _)
 
 only-full : (s : Sampler) (d : Asked) (trial : ℕ) (h : List ℕ) → (call_of s (asks d trial h)).answer ≡ Err NoPlace → (taken_count s.places ≡ 32) × (trial_place s.places trial ≡ 32)
 only-full s d trial h =
@@ -93,13 +93,13 @@ only-full s d trial h =
     nine : {c : Refusal} → Refusing s d trial h c → cause_number c ≡ 9 → (taken_count s.places ≡ 32) × (trial_place s.places trial ≡ 32)
     nine (malformed-sampler x) e = absurd (omega arith)
     nine malformed-asked e = absurd (omega arith)
-    nine (bad-history c x) e = absurd (history-other s.settings.slots h (ap number_of x ∙ e))
+    nine (bad-history c x) e = absurd ((history-other s.settings.slots h).no (ap number_of x ∙ e))
     nine no-dimension e = absurd (omega arith)
-    nine (no-draw r p c x) e = absurd (random-other s.word r (ap number_of x ∙ e))
+    nine (no-draw r p c x) e = absurd ((random-other s.word r).no (ap number_of x ∙ e))
     nine (no_place l) e = no-spot s.places trial l
     nine (no-values r p q c x) e =
-        absurd (by-serving s.settings s.dimensions s.n_dims s.word (held_by s.places trial) r trial (served_history s h) Other (λ _ _ _ z. omega arith)
-        (λ _ _ _. made-other _ _ (random-other s.word r)) (λ _. made-other _ _ (candidate-other s.settings s.dimensions s.n_dims s.word (served_history s h))) (ap number_of x ∙ e))
+        absurd ((by-serving s.settings s.dimensions s.n_dims s.word (held_by s.places trial) r trial (served_history s h) Other (λ _ _ _. fine _)
+        (λ _ _ _. made-other _ _ (random-other s.word r)) (λ _. made-other _ _ (candidate-other s.settings s.dimensions s.n_dims s.word (served_history s h)))).no (ap number_of x ∙ e))
 
 ninth : (s : Sampler) (d : Asked) (r : Distribution) (trial : ℕ) (h : List ℕ)
     → T (sampler_ok s) → read_asked d ≡ Some r → check_of s.settings.slots h ≡ Ok tt → taken_count s.places ≡ 32 → trial_place s.places trial ≡ 32 → (call_of s (asks d trial h)).answer ≡ Err NoPlace

@@ -5,10 +5,7 @@ use Prim.Native.Nat.{ℕ}
 use mathlib.Core.Path.{◌≡◌, refl, sym, ap, ◌∙◌, subst}
 use mathlib.Core.List.{List, ◌∷◌}
 use Rattle.distribution.specs.declared.Distribution.{Distribution}
-use Rattle.distribution.specs.declared.ParamValue.{ParamValue}
 use Rattle.history_view.specs.Agree.{Agree}
-use Rattle.refusal.specs.Numbers.{number_of}
-use Rattle.param_mapping.specs.Mapping.{asked_of as mapping_asked}
 use Rattle.history_view.proofs.Order.{order-free}
 use Rattle.settings.specs.declared.Settings.{Settings}
 use Rattle.sampler_state.specs.declared.Sampler.{Sampler}

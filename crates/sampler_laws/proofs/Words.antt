@@ -1,5 +1,4 @@
 -- The word after a call is the word before it, moved as often as the answer says; a refused call draws nothing and hands back the sampler that it got. Assumes nothing.
-use Prim.Native.Nat.{ℕ}
 use mathlib.Core.Path.{◌≡◌, refl, subst}
 use Rattle.std.specs.Prelude.{Ok, Err}
 use Rattle.refusal.specs.declared.Refusal.{Refusal}
