@@ -21,7 +21,7 @@ use Rattle.refusal.specs.declared.Refusal.TheVariants.{Malformed, TooManyDimensi
 use Rattle.history_rows.specs.Tests.{check_of}
 use Rattle.sampler_state.specs.declared.Sampler.{Sampler}
 use Rattle.sampler_state.specs.State.{trial_place, sampler_ok}
-use Rattle.sampler_state.proofs.Checked.{dimensions-few}
+use Rattle.sampler_state.proofs.Checked.{dimensions_few}
 use Rattle.sampler_laws.specs.declared.Accepted.{Accepted}
 use Rattle.sampler_laws.specs.declared.Sampled.{Sampled}
 use Rattle.sampler_laws.specs.declared.Serving.{Serving}
@@ -87,7 +87,7 @@ module _ (s : Sampler) (d : Asked) (trial : ℕ) (h : List ℕ) (P : Sampled →
     discover : past_discovery s trial ≡ false → Holds (discover_of s r trial)
     unfolding discover_of
     discover past =
-        let l = dimensions-few s (is_true (sampler_ok s) p.ok) in
+        let l = dimensions_few s (is_true (sampler_ok s) p.ok) in
         by-test Holds (eqb s.n_dims 20) _ _ (λ z. no TooManyDimensions no-dimension) (λ z. drawn (sample_random_of s.word r) refl (let x = eqb-false s.n_dims 20 z in omega arith))
       where
         drawn : (x : Result (Draw ParamValue) Refusal) → sample_random_of s.word r ≡ x → s.n_dims < 20 → Holds (made (drawn_of (with_dimension s trial r)) x)
