@@ -2,7 +2,7 @@
 use Rattle.std.specs.Prelude.{Option, Some, None}
 use mathlib.Core.Path.{◌≡◌, refl, subst}
 use Prim.Native.Nat.{ℕ, ◌^◌, ◌≤◌, ◌<◌}
-use mathlib.Core.Bool.{Bool, true, false, not, ◌&&◌, ◌||◌}
+use mathlib.Core.Bool.{Bool, true, false, not, ◌||◌}
 use lib.Dec.{T, leb→le, ltb→lt}
 use lib.IntN.{ℤ, pos, negsuc, neg_ℤ, nat_abs}
 use lib.Signed.{le_z}
@@ -16,7 +16,7 @@ use Rattle.distribution.specs.declared.CategoricalDistribution.{CategoricalDistr
 use Rattle.distribution.specs.declared.Distribution.{Distribution}
 use Rattle.distribution.specs.declared.ParamValue.{ParamValue}
 use Rattle.distribution.specs.Numbers.{FloatDistribution, IntDistribution}
-use Rattle.distribution.specs.Shape.{power, within, within_z, step_ok, float_step, float_shape, int_shape, categorical_shape}
+use Rattle.distribution.specs.Shape.{power, within, within_z, step_ok, float_step, float_shape, int_step, int_shape, categorical_shape}
 use Rattle.distribution.specs.Taken.{taken_of}
 use Rattle.distribution.proofs.Whole as whole
 
@@ -130,7 +130,8 @@ pub record IntRules (d : IntDistribution) : Type 0 where
   pub log : T d.log_scale → T (le_z (pos 1) d.low)
   pub steps : (step : ℤ) → d.step ≡ Some step → Bounded (2 ^ 52) step × T (le_z (pos 1) step)
 
-int-step : (z : ℤ) → T (le_z (pos 1) z && le_z z (pos (2 ^ 52))) → Bounded (2 ^ 52) z × T (le_z (pos 1) z)
+int-step : (z : ℤ) → T (int_step z) → Bounded (2 ^ 52) z × T (le_z (pos 1) z)
+unfolding int_step
 int-step (pos n) t = (bounded (2 ^ 52) (pos n) (search parts), search parts)
 int-step (negsuc n) t = absurd t
 
@@ -142,7 +143,7 @@ int-rules d t =
       high = bounded (2 ^ 52) d.high (search parts);
       order = search parts;
       log = asked d.log_scale (le_z (pos 1) d.low) (search parts);
-      steps = λ step e. int-step step (of-step (λ (z : ℤ). le_z (pos 1) z && le_z z (pos (2 ^ 52))) d.step (search parts) step e);
+      steps = λ step e. int-step step (of-step int_step d.step (search parts) step e);
     }
 
 pub categorical-rules : (d : CategoricalDistribution) → T (categorical_shape d) → (1 ≤ d.n_choices) × (d.n_choices ≤ 2 ^ 32)

@@ -26,7 +26,8 @@ ranged below least most first log x = below least x && below x most && (not log 
 
 -- both ends so, and in order
 abbrev pub ends : {A : Type 0} → (A → A → Bool) → A → A → A → NumberDistribution A → Bool
-ends below least most first d = ranged below least most first d.log_scale d.low && ranged below least most first false d.high && below d.low d.high
+ends below least most first d =
+    ranged below least most first d.log_scale d.low && ranged below least most first false d.high && below d.low d.high
 
 -- a test of the step where there is one
 abbrev pub step_ok : {A : Type 0} → (A → Bool) → Option A → Bool
@@ -41,12 +42,17 @@ float_step low high step =
 -- "Float: finite, low ≤ high, both at most 2^52 in magnitude. Log needs low ≥ 2^-52."
 unfoldable pub float_shape : FloatDistribution → Bool
 unfolding float_step
-float_shape d = ends le (neg (power (pos 52))) (power (pos 52)) (power (negsuc 51)) d && step_ok (float_step d.low d.high) d.step
+float_shape d =
+    ends le (neg (power (pos 52))) (power (pos 52)) (power (negsuc 51)) d && step_ok (float_step d.low d.high) d.step
 
--- "Int: the same magnitude and order, log needs low ≥ 1", "step 1 to 2^52"
+-- "step 1 to 2^52"
+unfoldable pub int_step : ℤ → Bool
+int_step step = le_z (pos 1) step && le_z step (pos (2 ^ 52))
+
+-- "Int: the same magnitude and order, log needs low ≥ 1"
 unfoldable pub int_shape : IntDistribution → Bool
-int_shape d =
-    ends le_z (neg_ℤ (pos (2 ^ 52))) (pos (2 ^ 52)) (pos 1) d && step_ok (λ (step : ℤ). le_z (pos 1) step && le_z step (pos (2 ^ 52))) d.step
+unfolding int_step
+int_shape d = ends le_z (neg_ℤ (pos (2 ^ 52))) (pos (2 ^ 52)) (pos 1) d && step_ok int_step d.step
 
 -- "Choice: low is the number of choices, 1 to 2^32"
 unfoldable pub categorical_shape : CategoricalDistribution → Bool
