@@ -18,8 +18,8 @@ use Rattle.arith.proofs.Tests.{either}
 use Rattle.arith.proofs.Order as order
 use Rattle.arith.proofs.Within.{abs-round, abs-real, sub_in, div-in, widen, within, within-finite, upper, lower, le-abs}
 use Rattle.arith.proofs.Mono.{add-rounded}
-use Rattle.distribution.specs.declared.FloatDistribution.{FloatDistribution}
-use Rattle.distribution.specs.declared.IntDistribution.{IntDistribution}
+use Rattle.distribution.specs.Numbers.{FloatDistribution}
+use Rattle.distribution.specs.Numbers.{IntDistribution}
 use Rattle.distribution.specs.declared.Distribution.{Distribution}
 use Rattle.distribution.specs.declared.ParamValue.{ParamValue}
 use Rattle.distribution.specs.Shape.{power, within_z, float_shape, int_shape}

@@ -27,7 +27,7 @@ use Rattle.arith.proofs.Sign.{bit-of, mul-sign, div-sign}
 use Rattle.arith.proofs.Zero.{zero_f, zero-lt}
 use Rattle.arith.proofs.HalfUnit.{half-unit}
 use Rattle.arith.proofs.Held.{held}
-use Rattle.distribution.specs.declared.FloatDistribution.{FloatDistribution}
+use Rattle.distribution.specs.Numbers.{FloatDistribution}
 use Rattle.distribution.specs.Shape.{power, float_shape}
 use Rattle.distribution.proofs.Facts.{FloatStepRules, float-rules}
 use Rattle.common.proofs.Domain.{positive-within}

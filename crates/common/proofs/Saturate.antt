@@ -7,7 +7,7 @@ use lib.IntN.{ℤ, pos, negsuc, ◌+ℤ◌, ◌*ℤ◌}
 use lib.Ieee.{Float}
 use mir.Syntax.{w64}
 use mir.Val.{SFits}
-use Rattle.distribution.specs.declared.IntDistribution.{IntDistribution}
+use Rattle.distribution.specs.Numbers.{IntDistribution}
 use Rattle.common.specs.Grid.{saturated, int_grid}
 use Rattle.common.specs.GridParts.{StepFits, steps_to}
 use mathlib.Core.Bool.{true}

@@ -4,8 +4,8 @@ use Rattle.std.specs.Int.Signed.{lt_z}
 use Rattle.std.specs.Float.{binary64}
 use Rattle.std.specs.Float.Ieee.{add, sub, mul, div, lt, of_int, to_signed}
 use Rattle.arith.specs.Rounding.{round_of}
-use Rattle.distribution.specs.declared.FloatDistribution.{FloatDistribution}
-use Rattle.distribution.specs.declared.IntDistribution.{IntDistribution}
+use Rattle.distribution.specs.Numbers.{FloatDistribution}
+use Rattle.distribution.specs.Numbers.{IntDistribution}
 
 -- Rust's f64::clamp
 abbrev pub raised_to : Float → Float → Float

@@ -5,7 +5,7 @@ use Rattle.std.specs.Float.{binary64}
 use Rattle.std.specs.Float.Ieee.{sub, div, of_int}
 use Rattle.std.specs.Int.{w64}
 use Rattle.std.proofs.Common.{SFits}
-use Rattle.distribution.specs.declared.IntDistribution.{IntDistribution}
+use Rattle.distribution.specs.Numbers.{IntDistribution}
 use Rattle.common.specs.Grid.{round_z}
 
 -- the number of steps from low to v

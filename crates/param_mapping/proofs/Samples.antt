@@ -9,7 +9,7 @@ use Rattle.dimensions.specs.Dimensions.{dimension_of}
 use Rattle.history_rows.proofs.Samples.{slot, absent, row}
 
 abbrev pub int : ℕ → Distribution
-int high = Distribution.Int (record { low = pos 0; high = pos high; log_scale = false; stepped = false; step = pos 0 })
+int high = Distribution.Int (record { low = pos 0; high = pos high; log_scale = false; step = None })
 
 abbrev pub choice : ℕ → ℕ → ℕ → List ℕ
 choice id n v = id ∷ 3 ∷ n ∷ 0 ∷ 0 ∷ 0 ∷ 0 ∷ v ∷ []

@@ -9,12 +9,12 @@ use lib.Ieee.{binary64, of_bits}
 use lib.Ieee.Bits.{of_bits-fits}
 use mir.Syntax.{w64}
 use mir.Val.{to_z}
-use Rattle.distribution.specs.declared.FloatDistribution.{FloatDistribution}
-use Rattle.distribution.specs.declared.IntDistribution.{IntDistribution}
+use Rattle.distribution.specs.Numbers.{FloatDistribution}
+use Rattle.distribution.specs.Numbers.{IntDistribution}
 use Rattle.distribution.specs.declared.Distribution.{Distribution}
 use Rattle.distribution_words.specs.RoundTrip.{Held}
 use Rattle.distribution.specs.Shape.{shape_of}
-use Rattle.distribution_words.specs.Words.{checked_of, float_read, int_read, categorical_read, read_of}
+use Rattle.distribution_words.specs.Words.{checked_of, read_of}
 use Rattle.distribution_words.proofs.RoundTrip.{malformed, only-is}
 
 pick : (b : Bool) (x y : Option Distribution) (d : Distribution) → cond b x y ≡ Some d → (x ≡ Some d) ⊎ (y ≡ Some d)
@@ -30,19 +30,19 @@ from x d h e =
 
 module _ (low high log stepped step : ℕ) (d : Distribution) where
   float-held : float_read low high log stepped step ≡ Some d → Held d × T (shape_of d)
-  unfolding float_read
+  unfolding
   float-held e =
       let x : FloatDistribution = record { low = of_bits binary64 low; high = of_bits binary64 high; log_scale = eqb log 1; stepped = eqb stepped 1; step = of_bits binary64 step } in
       from (Distribution.Float x) d (of_bits-fits binary64 low, of_bits-fits binary64 high, of_bits-fits binary64 step) (only-is (leb log 1 && leb stepped 1) (checked_of (Distribution.Float x)) d e).1
 
   int-held : int_read low high log stepped step ≡ Some d → Held d × T (shape_of d)
-  unfolding int_read
+  unfolding
   int-held e =
       let x : IntDistribution = record { low = to_z w64 low; high = to_z w64 high; log_scale = eqb log 1; stepped = eqb stepped 1; step = to_z w64 step } in
       from (Distribution.Int x) d tt (only-is (leb log 1 && leb stepped 1) (checked_of (Distribution.Int x)) d e).1
 
   categorical-held : categorical_read low high log stepped step ≡ Some d → Held d × T (shape_of d)
-  unfolding categorical_read
+  unfolding
   categorical-held e =
       let x : Distribution = Distribution.Categorical (record { n_choices = low }) in
       from x d tt (only-is (eqb high 0 && eqb log 0 && eqb stepped 0 && eqb step 0) (checked_of x) d e).1

@@ -12,7 +12,7 @@ use Rattle.rng_util.specs.Generator.{stream_of, next_of as step}
 use Rattle.distribution.specs.declared.Distribution.{Distribution}
 use Rattle.distribution.specs.declared.ParamValue.{ParamValue}
 use Rattle.distribution.specs.Shape.{shape_of, int_shape, int_step, categorical_shape}
-use Rattle.distribution_words.specs.Words.{read_of, checked_of, int_read, categorical_read}
+use Rattle.distribution_words.specs.Words.{read_of, checked_of}
 use Rattle.encoding.specs.Bounds.{bounds_of, ends_of}
 use Rattle.common.specs.Random.{sample_random_of, random_of, int_random, linear_int_random, categorical_random, from_whole}
 use Rattle.dimensions.specs.Empty.{empty_stored}
@@ -91,7 +91,7 @@ Run =
     × (said (choice (with_word fresh 0) 7) ≡ (11, ParamValue.Refused 11, 0))
 
 run : Run
-unfolding sample_of close_of discover_of serving_of active_of served_of trial_place free_place spot_for taken_count place_ok trials_once sampler_ok settings_ok candidate_of candidate_number compute_candidate_of step_of walk_of view_of training_of recent_training asked_of dimension_ok dimensions_ok columns_of whole_rows row_count recent_count recent_of recent_tests check_of bounds_of ends_of sample_random_of random_of int_random linear_int_random categorical_random from_whole shape_of int_shape int_step categorical_shape read_of checked_of int_read categorical_read whole_draw_of whole_of range_ok step every grown place_of places_of of_bits to_bits of_int le lt eq neg
+unfolding sample_of close_of discover_of serving_of active_of served_of trial_place free_place spot_for taken_count place_ok trials_once sampler_ok settings_ok candidate_of candidate_number compute_candidate_of step_of walk_of view_of training_of recent_training asked_of dimension_ok dimensions_ok columns_of whole_rows row_count recent_count recent_of recent_tests check_of bounds_of ends_of sample_random_of random_of int_random linear_int_random categorical_random from_whole shape_of int_shape int_step categorical_shape read_of checked_of whole_draw_of whole_of range_ok step every grown place_of places_of of_bits to_bits of_int le lt eq neg
 run = (refl, refl, refl, refl, refl, refl, refl, refl, refl, refl, refl, refl)
 
 -- ---- the same run as a list of calls, and what the laws say of each
@@ -130,7 +130,7 @@ Laws =
     × (fit_made third.sampler [] ≡ false)
 
 laws : Laws
-unfolding new_trial has_model words_taken answers_of end_of sample_of close_of discover_of serving_of active_of served_of trial_place free_place spot_for taken_count place_ok trials_once sampler_ok settings_ok candidate_of candidate_number compute_candidate_of step_of walk_of view_of training_of recent_training asked_of dimension_ok dimensions_ok columns_of whole_rows row_count recent_count recent_of recent_tests check_of bounds_of ends_of sample_random_of random_of int_random linear_int_random categorical_random from_whole shape_of int_shape int_step categorical_shape read_of checked_of int_read categorical_read whole_draw_of whole_of range_ok step every grown place_of places_of of_bits to_bits of_int le lt eq neg
+unfolding new_trial has_model words_taken answers_of end_of sample_of close_of discover_of serving_of active_of served_of trial_place free_place spot_for taken_count place_ok trials_once sampler_ok settings_ok candidate_of candidate_number compute_candidate_of step_of walk_of view_of training_of recent_training asked_of dimension_ok dimensions_ok columns_of whole_rows row_count recent_count recent_of recent_tests check_of bounds_of ends_of sample_random_of random_of int_random linear_int_random categorical_random from_whole shape_of int_shape int_step categorical_shape read_of checked_of whole_draw_of whole_of range_ok step every grown place_of places_of of_bits to_bits of_int le lt eq neg
 laws = (refl, refl, refl, refl, refl, refl, refl, refl, refl, refl, refl, refl, refl, refl, refl, refl)
 
 -- ---- one trial served, and put back
@@ -141,7 +141,7 @@ at next = record { taken = true; trial = 8; values = filled empty_stored 20 ((re
 
 -- the int from 0 to 9 asked, with the dimensions of the run and the generator's word 1
 abbrev serve : Place → Serving
-serve p = serving_of fresh.settings second.sampler.dimensions 2 1 p (Distribution.Int (record { low = pos 0; high = pos 9; log_scale = false; stepped = false; step = pos 0 })) 8 []
+serve p = serving_of fresh.settings second.sampler.dimensions 2 1 p (Distribution.Int (record { low = pos 0; high = pos 9; log_scale = false; step = None })) 8 []
 
 -- a serving put back as place 3 of a sampler that has a place 0
 abbrev before : Sampler
@@ -173,7 +173,7 @@ Servings =
     × (put refusal ≡ record { number = 11; value = ParamValue.Refused 11; drawn = 0; sampler = before })
 
 servings : Servings
-unfolding sample_of close_of discover_of serving_of active_of served_of trial_place free_place spot_for taken_count place_ok trials_once sampler_ok settings_ok candidate_of candidate_number compute_candidate_of step_of walk_of view_of training_of recent_training asked_of dimension_ok dimensions_ok columns_of whole_rows row_count recent_count recent_of recent_tests check_of bounds_of ends_of sample_random_of random_of int_random linear_int_random categorical_random from_whole shape_of int_shape int_step categorical_shape read_of checked_of int_read categorical_read whole_draw_of whole_of range_ok step every grown place_of places_of of_bits to_bits of_int le lt eq neg
+unfolding sample_of close_of discover_of serving_of active_of served_of trial_place free_place spot_for taken_count place_ok trials_once sampler_ok settings_ok candidate_of candidate_number compute_candidate_of step_of walk_of view_of training_of recent_training asked_of dimension_ok dimensions_ok columns_of whole_rows row_count recent_count recent_of recent_tests check_of bounds_of ends_of sample_random_of random_of int_random linear_int_random categorical_random from_whole shape_of int_shape int_step categorical_shape read_of checked_of whole_draw_of whole_of range_ok step every grown place_of places_of of_bits to_bits of_int le lt eq neg
 servings = (refl, refl, refl, refl, refl, refl, refl, refl, refl, refl, refl, refl)
 
 -- two candidates and no start-up: after discovery of the int a new trial without a row asks for a fit, which has none, and its points would be the next two words
@@ -189,5 +189,5 @@ Points =
     × (point_drawn (with_word eager 1) 1 ≡ unit_of 0x100041060c011441 ∷ [])
 
 points : Points
-unfolding has_model point_drawn stream_of fit_of fit_domain all_within sample_of discover_of served_of sampler_ok settings_ok view_of training_of recent_training asked_of mapped_of kept_of x_of y_of dimension_ok dimensions_ok columns_of whole_rows row_count recent_count recent_of recent_tests check_of bounds_of ends_of sample_random_of random_of int_random linear_int_random from_whole shape_of int_shape int_step read_of checked_of int_read whole_draw_of whole_of range_ok step every grown places_of place_ok trials_once of_bits to_bits of_int le lt eq neg
+unfolding has_model point_drawn stream_of fit_of fit_domain all_within sample_of discover_of served_of sampler_ok settings_ok view_of training_of recent_training asked_of mapped_of kept_of x_of y_of dimension_ok dimensions_ok columns_of whole_rows row_count recent_count recent_of recent_tests check_of bounds_of ends_of sample_random_of random_of int_random linear_int_random from_whole shape_of int_shape int_step read_of checked_of whole_draw_of whole_of range_ok step every grown places_of place_ok trials_once of_bits to_bits of_int le lt eq neg
 points = (refl, refl, refl, refl, refl)

@@ -30,7 +30,7 @@ full = replicate 32 (place true 7 1)
 abbrev dims : List DimensionInfo
 dims =
     (record { distribution = Distribution.Categorical (record { n_choices = 5 }); lo = of_bits binary64 0; hi = of_bits binary64 0 })
-    ∷ (record { distribution = Distribution.Int (record { low = pos 0; high = pos 9; log_scale = false; stepped = false; step = pos 0 }); lo = of_bits binary64 0; hi = of_bits binary64 0 })
+    ∷ (record { distribution = Distribution.Int (record { low = pos 0; high = pos 9; log_scale = false; step = None }); lo = of_bits binary64 0; hi = of_bits binary64 0 })
     ∷ []
 
 abbrev Places : Type 0
