@@ -1,4 +1,5 @@
 -- Small dimensions and rows, for cases computed: one slot is an int from 0 to 4, another an int from 0 to 8. Definitions only.
+use Rattle.std.specs.Prelude.{None}
 use Prim.Native.Nat.{ℕ}
 use mathlib.Core.Bool.{false}
 use mathlib.Core.List.{List, [], ◌∷◌, ◌++◌}

@@ -6,7 +6,7 @@ use mathlib.Core.List.{List, [], ◌∷◌}
 use lib.IntN.{pos}
 use lib.ListN.{get_or}
 use lib.Ieee.{binary64, of_bits, to_bits, of_int, to_signed, round, add, sub, mul, div, neg, le, lt, eq, is_nan}
-use Rattle.std.specs.Prelude.{Result, Ok, Err}
+use Rattle.std.specs.Prelude.{Result, Ok, Err, None}
 use Rattle.refusal.specs.declared.Refusal.{Refusal}
 use Rattle.refusal.specs.declared.Refusal.TheVariants.{BrokenRows, OutOfDomain}
 use Rattle.arith.specs.Outcome.{made}

@@ -17,7 +17,7 @@ use Rattle.encoding.specs.Bounds.{bounds_of, ends_of}
 use Rattle.common.specs.Random.{sample_random_of, random_of, int_random, linear_int_random, categorical_random, from_whole}
 use Rattle.dimensions.specs.Empty.{empty_stored}
 use Rattle.dimensions.specs.Dimensions.{dimension_ok, dimensions_ok, columns_of}
-use Rattle.std.specs.Prelude.{Err}
+use Rattle.std.specs.Prelude.{Err, None}
 use Rattle.refusal.specs.declared.Refusal.TheVariants.{NoRows}
 use Rattle.gp_model.specs.Fit.{fit_of, fit_domain}
 use Rattle.gp_model.specs.Statistics.{all_within}

@@ -1,4 +1,5 @@
 -- Places looked up, judged and counted, computed: a trial's place, the empty one where it has none, and where a place is written. Assumes nothing.
+use Rattle.std.specs.Prelude.{None}
 use Prim.Native.Nat.{ℕ}
 use mathlib.Core.Path.{◌≡◌, refl}
 use mathlib.Core.Bool.{Bool, true, false}
