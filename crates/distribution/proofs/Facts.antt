@@ -1,5 +1,6 @@
 -- What a well-formed distribution and a taken value keep: the parts of the tests that they pass, as facts. Assumes nothing.
-use Rattle.std.specs.Prelude.{Option, Some, None}
+use Rattle.std.specs.Prelude.{Option, Some, None, IfSome}
+use Rattle.std.specs.Option.{option_map_or}
 use mathlib.Core.Path.{◌≡◌, refl, subst}
 use Prim.Native.Nat.{ℕ, ◌^◌, ◌≤◌, ◌<◌}
 use mathlib.Core.Bool.{Bool, true, false, not, ◌||◌}
@@ -16,7 +17,7 @@ use Rattle.distribution.specs.declared.CategoricalDistribution.{CategoricalDistr
 use Rattle.distribution.specs.declared.Distribution.{Distribution}
 use Rattle.distribution.specs.declared.ParamValue.{ParamValue}
 use Rattle.distribution.specs.Numbers.{FloatDistribution, IntDistribution}
-use Rattle.distribution.specs.Shape.{power, within, within_z, step_ok, float_step, float_shape, int_step, int_shape, categorical_shape}
+use Rattle.distribution.specs.Shape.{power, within, within_z, float_step, float_shape, int_step, int_shape, categorical_shape}
 use Rattle.distribution.specs.Taken.{taken_of}
 use Rattle.distribution.proofs.Whole as whole
 
@@ -32,14 +33,19 @@ pub asking : (a b : Bool) → (T a → T b) → T (not a || b)
 asking true b h = h tt
 asking false b h = tt
 
--- the test of a step, where there is one, and back
-module _ {A : Type 0} (test : A → Bool) where
-  of-step : (o : Option A) → T (step_ok test o) → (step : A) → o ≡ Some step → T (test step)
-  of-step o t step e = subst (λ (x : Option A). T (step_ok test x)) e t
+-- what is made of a step where there is one, by the two cases
+pub by-step : {A B : Type 0} (P : B → Type 0) (f : A → B) (o : Option A) (none : B) → ((step : A) → o ≡ Some step → P (f step)) → (o ≡ None → P none) → P (option_map_or f o none)
+by-step P f None none h k = k refl
+by-step P f (Some step) none h k = h step refl
 
-  to-step : (o : Option A) → ((step : A) → o ≡ Some step → T (test step)) → T (step_ok test o)
-  to-step None h = tt
-  to-step (Some step) h = h step refl
+-- what holds of each step holds where there is one
+pub if-some : {A : Type 0} (o : Option A) (P : A → Type 0) → ((step : A) → o ≡ Some step → P step) → IfSome o P
+if-some None P h = tt
+if-some (Some step) P h = h step refl
+
+-- the test of a step, where there is one
+tested : {A : Type 0} (test : A → Bool) (o : Option A) → T (option_map_or test o true) → (step : A) → o ≡ Some step → T (test step)
+tested test o t step e = subst (λ x. T (option_map_or test x true)) e t
 
 -- ---- floats
 
@@ -79,7 +85,7 @@ float-rules d t =
       high = size (power (pos 52)) d.high (search parts);
       order = search parts;
       log = asked d.log_scale (le (power (negsuc 51)) d.low) (search parts);
-      steps = λ step e. step-rules d.low d.high step (of-step (float_step d.low d.high) d.step (search parts) step e);
+      steps = λ step e. step-rules d.low d.high step (tested (float_step d.low d.high) d.step (search parts) step e);
     }
 
 -- and back: the rules are all that the test asks
@@ -106,7 +112,7 @@ rules-float d r =
     let e = sizes.upper (power (pos 52)) d.high r.high in
     let o = r.order in
     let l = asking d.log_scale (le (power (negsuc 51)) d.low) r.log in
-    let s = to-step (float_step d.low d.high) d.step (λ step e. rules-step d.low d.high step (r.steps step e)) in
+    let s = by-step T (float_step d.low d.high) d.step true (λ step e. rules-step d.low d.high step (r.steps step e)) (λ _. tt) in
     search and_i
 
 -- ---- whole numbers
@@ -143,7 +149,7 @@ int-rules d t =
       high = bounded (2 ^ 52) d.high (search parts);
       order = search parts;
       log = asked d.log_scale (le_z (pos 1) d.low) (search parts);
-      steps = λ step e. int-step step (of-step int_step d.step (search parts) step e);
+      steps = λ step e. int-step step (tested int_step d.step (search parts) step e);
     }
 
 pub categorical-rules : (d : CategoricalDistribution) → T (categorical_shape d) → (1 ≤ d.n_choices) × (d.n_choices ≤ 2 ^ 32)

@@ -4,13 +4,14 @@ use mathlib.Core.Bool.{Bool, true, false, ◌&&◌, ◌||◌, cond}
 use Prim.Native.Nat.{ℕ}
 use lib.Dec.{leb, ltb}
 use lib.IntN.{ℤ, pos, negsuc}
-use lib.Signed.{le_z}
+use lib.Signed.{le_z, lt_z}
 use lib.Ieee.{eq, lt, le}
 use Rattle.std.specs.Prelude.{Option, Some, None, IsTrue, MatchOption}
 use Rattle.std.proofs.Common.{rules, Less, Equal, Greater}
-use Rattle.std.specs.Ordering.{is_le, is_some_and, int_cmp, float_partial_cmp, partial_le}
+use Rattle.std.specs.Ordering.{is_le, is_lt, is_some_and, int_cmp, float_partial_cmp, partial_le, partial_lt}
 use Rattle.distribution.specs.declared.NumberDistribution.{NumberDistribution}
-use Rattle.distribution.specs.Shape.{ends, step_ok}
+use Rattle.std.specs.Option.{option_map_or}
+use Rattle.distribution.specs.Shape.{ends}
 
 pub floats : partial_le float_partial_cmp ≡ le
 unfolding le
@@ -35,17 +36,36 @@ ints i x y = at x y i
     at (negsuc a) (pos b) = refl
     at (negsuc a) (negsuc b) = of_nat b a
 
-none_or : {A : Type 0} (test : A → Bool) (o : Option A) (r : Bool) → MatchOption o (IsTrue r) (λ x. r ≡ test x) → r ≡ step_ok test o
+none_or : {A : Type 0} (test : A → Bool) (o : Option A) (r : Bool) → MatchOption o (IsTrue r) (λ x. r ≡ test x) → r ≡ option_map_or test o true
 none_or test None r h = h
 none_or test (Some x) r h = h
 
 -- the test of both ends, and then of a step where there is one
 module _ {A : Type 0} (o below : A → A → Bool) (e : o ≡ below) (least most first : A) (d : NumberDistribution A) (t : Bool) (tested : t ≡ ends o least most first d) (test : A → Bool) where
-  shape : t && step_ok test d.step ≡ ends below least most first d && step_ok test d.step
-  shape = ap (λ (b : Bool). b && step_ok test d.step) (tested ∙ ap (λ (o : A → A → Bool). ends o least most first d) e)
+  shape : t && option_map_or test d.step true ≡ ends below least most first d && option_map_or test d.step true
+  shape = ap (λ (b : Bool). b && option_map_or test d.step true) (tested ∙ ap (λ (o : A → A → Bool). ends o least most first d) e)
 
-  pub shaped : (r : Bool) → t ≡ true → MatchOption d.step (IsTrue r) (λ x. r ≡ test x) → r ≡ ends below least most first d && step_ok test d.step
-  shaped r f h = none_or test d.step r h ∙ ap (λ (b : Bool). b && step_ok test d.step) (sym f) ∙ shape
+  pub shaped : (r : Bool) → t ≡ true → MatchOption d.step (IsTrue r) (λ x. r ≡ test x) → r ≡ ends below least most first d && option_map_or test d.step true
+  shaped r f h = none_or test d.step r h ∙ ap (λ (b : Bool). b && option_map_or test d.step true) (sym f) ∙ shape
 
-  pub unshaped : t ≡ false → t ≡ ends below least most first d && step_ok test d.step
-  unshaped f = f ∙ ap (λ (b : Bool). b && step_ok test d.step) (sym f) ∙ shape
+  pub unshaped : t ≡ false → t ≡ ends below least most first d && option_map_or test d.step true
+  unshaped f = f ∙ ap (λ (b : Bool). b && option_map_or test d.step true) (sym f) ∙ shape
+
+-- ---- less
+
+pub floats_lt : partial_lt float_partial_cmp ≡ lt
+floats_lt i x y = go (lt x y) (eq x y) (lt y x) i
+  where
+    go : (a e b : Bool) → is_some_and is_lt (cond a (Some Less) (cond e (Some Equal) (cond b (Some Greater) None))) ≡ a
+    go true e b = refl
+    go false true b = refl
+    go false false true = refl
+    go false false false = refl
+
+pub ints_lt : partial_lt (λ x y. Some (int_cmp x y)) ≡ lt_z
+ints_lt i x y = go (lt_z x y) (lt_z y x) i
+  where
+    go : (a b : Bool) → is_lt (cond a Less (cond b Greater Equal)) ≡ a
+    go true b = refl
+    go false true = refl
+    go false false = refl

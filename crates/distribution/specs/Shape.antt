@@ -1,5 +1,6 @@
 -- Document 01, "Distribution": which are well-formed. Every limit on a float is a comparison of floats, so a NaN fails. Definitions only.
-use Rattle.std.specs.Prelude.{◌^◌, Bool, true, false, not, ◌&&◌, ◌||◌, leb, ℤ, pos, negsuc, neg_ℤ, Float, Option, Some, None}
+use Rattle.std.specs.Prelude.{◌^◌, Bool, true, false, not, ◌&&◌, ◌||◌, leb, ℤ, pos, negsuc, neg_ℤ, Float}
+use Rattle.std.specs.Option.{option_map_or}
 use Rattle.std.specs.Int.Signed.{le_z}
 use Rattle.std.specs.Float.{inf, fin, binary64}
 use Rattle.std.specs.Float.Ieee.{sub, div, neg, lt, le}
@@ -29,11 +30,6 @@ abbrev pub ends : {A : Type 0} → (A → A → Bool) → A → A → A → Numb
 ends below least most first d =
     ranged below least most first d.log_scale d.low && ranged below least most first false d.high && below d.low d.high
 
--- a test of the step where there is one
-abbrev pub step_ok : {A : Type 0} → (A → Bool) → Option A → Bool
-step_ok test None = true
-step_ok test (Some step) = test step
-
 -- "Step is finite, at least 2^-52, with floor((high − low)/step) ≤ 2^52."
 unfoldable pub float_step : Float → Float → Float → Bool
 float_step low high step =
@@ -43,7 +39,7 @@ float_step low high step =
 unfoldable pub float_shape : FloatDistribution → Bool
 unfolding float_step
 float_shape d =
-    ends le (neg (power (pos 52))) (power (pos 52)) (power (negsuc 51)) d && step_ok (float_step d.low d.high) d.step
+    ends le (neg (power (pos 52))) (power (pos 52)) (power (negsuc 51)) d && option_map_or (float_step d.low d.high) d.step true
 
 -- "step 1 to 2^52"
 unfoldable pub int_step : ℤ → Bool
@@ -52,7 +48,7 @@ int_step step = le_z (pos 1) step && le_z step (pos (2 ^ 52))
 -- "Int: the same magnitude and order, log needs low ≥ 1"
 unfoldable pub int_shape : IntDistribution → Bool
 unfolding int_step
-int_shape d = ends le_z (neg_ℤ (pos (2 ^ 52))) (pos (2 ^ 52)) (pos 1) d && step_ok int_step d.step
+int_shape d = ends le_z (neg_ℤ (pos (2 ^ 52))) (pos (2 ^ 52)) (pos 1) d && option_map_or int_step d.step true
 
 -- "Choice: low is the number of choices, 1 to 2^32"
 unfoldable pub categorical_shape : CategoricalDistribution → Bool

@@ -24,7 +24,7 @@ use Rattle.distribution.specs.Numbers.{FloatDistribution, IntDistribution}
 use Rattle.distribution.specs.Shape.{power, shape_of}
 use Rattle.distribution_words.specs.Words.{flag, only, flags_ok, number_of, number_words, words_of, checked_of, read_of}
 use Rattle.distribution_words.specs.RoundTrip.{Held, RoundTrip}
-use Rattle.distribution.proofs.Facts.{parts, Bounded, float-rules, int-rules}
+use Rattle.distribution.proofs.Facts.{parts, Bounded, if-some, float-rules, int-rules}
 use Rattle.distribution_words.proofs.Read.{malformed, only-is}
 
 -- ---- from a distribution
@@ -64,11 +64,6 @@ whole-fits (negsuc n) b = record { sfits = let h = b.magnitude in omega arith }
 
 int-back : (z : ℤ) → Bounded (2 ^ 52) z → to_z w64 (of_z w64 z) ≡ z
 int-back z b = to_z-of_z w64 z (whole-fits z b)
-
--- what holds of each step holds where there is one
-if-some : {A : Type 0} (o : Option A) (P : A → Type 0) → ((x : A) → o ≡ Some x → P x) → IfSome o P
-if-some None P h = tt
-if-some (Some x) P h = h x refl
 
 some-if : {A : Type 0} (o : Option A) (P Q : A → Type 0) → ((x : A) → P x → Q x) → IfSome o P → IfSome o Q
 some-if None P Q h p = tt

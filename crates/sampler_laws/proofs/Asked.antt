@@ -9,8 +9,7 @@ use lib.Ieee.{binary64, of_bits}
 use lib.Ieee.Bits.{of_bits-fits}
 use mir.Syntax.{w64}
 use mir.Val.{to_z}
-use Rattle.distribution.specs.Numbers.{FloatDistribution}
-use Rattle.distribution.specs.Numbers.{IntDistribution}
+use Rattle.distribution.specs.Numbers.{FloatDistribution, IntDistribution}
 use Rattle.distribution.specs.declared.Distribution.{Distribution}
 use Rattle.distribution_words.specs.RoundTrip.{Held}
 use Rattle.distribution.specs.Shape.{shape_of}
