@@ -1,4 +1,5 @@
--- How a value is moved to the grid of a stepped distribution and held to its ends, as common.rs does it. Definitions only.
+-- How a value is moved to the grid of a stepped distribution and held to its ends, as common.rs does it.
+-- Definitions only.
 use Rattle.std.specs.Option.{option_map_or}
 use Rattle.std.specs.Prelude.{◌-◌, ◌^◌, Bool, cond, ℤ, pos, neg_ℤ, ◌+ℤ◌, ◌*ℤ◌, Float}
 use Rattle.std.specs.Int.Signed.{lt_z}
@@ -17,7 +18,8 @@ clamp_of less low high v = let r = raised_to less low v in cond (less high r) hi
 -- "let k = ((v - d.low) / step).round(); d.low + k * step", where there is a step
 unfoldable pub float_grid : FloatDistribution → Float → Float
 float_grid d v =
-    option_map_or (λ step. add binary64 d.low (mul binary64 (round_of (div binary64 (sub binary64 v d.low) step)) step)) d.step v
+    option_map_or (λ step. add binary64 d.low (mul binary64 (round_of (div binary64 (sub binary64 v d.low) step)) step))
+    d.step v
 
 -- Rust's saturating operations
 abbrev pub saturated : ℤ → ℤ

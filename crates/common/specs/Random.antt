@@ -59,7 +59,8 @@ log_int_random w d = drawing (λ u. made (int_of d) (log_range (ends_of (Distrib
 
 -- "let n_steps = (d.high - d.low) / step; let k = rng.i64(0..=n_steps); d.low + k * step"
 unfoldable pub stepped_int_random : ℕ → ℤ → ℤ → ℤ → Result (Draw ParamValue) Refusal
-stepped_int_random w low high step = read_by (λ k. ParamValue.Int (low +ℤ k *ℤ step)) (whole_draw_of w (pos 0) (quot_z (high -ℤ low) step))
+stepped_int_random w low high step =
+    read_by (λ k. ParamValue.Int (low +ℤ k *ℤ step)) (whole_draw_of w (pos 0) (quot_z (high -ℤ low) step))
 
 unfoldable pub linear_int_random : ℕ → ℤ → ℤ → Result (Draw ParamValue) Refusal
 linear_int_random w low high = read_by (λ k. ParamValue.Int k) (whole_draw_of w low high)
@@ -67,7 +68,8 @@ linear_int_random w low high = read_by (λ k. ParamValue.Int k) (whole_draw_of w
 unfoldable pub int_random : ℕ → IntDistribution → Result (Draw ParamValue) Refusal
 unfolding log_int_random stepped_int_random linear_int_random
 int_random w d =
-    cond d.log_scale (log_int_random w d) (option_map_or (stepped_int_random w d.low d.high) d.step (linear_int_random w d.low d.high))
+    cond d.log_scale (log_int_random w d)
+    (option_map_or (stepped_int_random w d.low d.high) d.step (linear_int_random w d.low d.high))
 
 -- a choice below the count
 unfoldable pub categorical_random : ℕ → ℕ → Result (Draw ParamValue) Refusal

@@ -1,4 +1,5 @@
--- "Distributions are equal as Rust's `PartialEq` says, so +0 equals −0": field by field, a step only where there is one. Definitions only.
+-- "Distributions are equal as Rust's `PartialEq` says, so +0 equals −0": field by field, a step only where there is one.
+-- Definitions only.
 use Rattle.std.specs.Prelude.{Bool, false, ◌&&◌, eqb}
 use Rattle.std.specs.Bool.{beq}
 use Rattle.std.specs.Float.Ieee.{eq}

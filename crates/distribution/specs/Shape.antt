@@ -1,4 +1,5 @@
--- Document 01, "Distribution": which are well-formed. Every limit on a float is a comparison of floats, so a NaN fails. Definitions only.
+-- Document 01, "Distribution": which are well-formed. Every limit on a float is a comparison of floats, so a NaN fails.
+-- Definitions only.
 use Rattle.std.specs.Prelude.{◌^◌, Bool, true, false, not, ◌&&◌, ◌||◌, leb, ℤ, pos, negsuc, neg_ℤ, Float}
 use Rattle.std.specs.Option.{option_map_or}
 use Rattle.std.specs.Int.Signed.{le_z}
@@ -33,13 +34,15 @@ ends below least most first d =
 -- "Step is finite, at least 2^-52, with floor((high − low)/step) ≤ 2^52."
 unfoldable pub float_step : Float → Float → Float → Bool
 float_step low high step =
-    le (power (negsuc 51)) step && lt step (inf false) && le (floor_of (div binary64 (sub binary64 high low) step)) (power (pos 52))
+    le (power (negsuc 51)) step && lt step (inf false)
+    && le (floor_of (div binary64 (sub binary64 high low) step)) (power (pos 52))
 
 -- "Float: finite, low ≤ high, both at most 2^52 in magnitude. Log needs low ≥ 2^-52."
 unfoldable pub float_shape : FloatDistribution → Bool
 unfolding float_step
 float_shape d =
-    ends le (neg (power (pos 52))) (power (pos 52)) (power (negsuc 51)) d && option_map_or (float_step d.low d.high) d.step true
+    ends le (neg (power (pos 52))) (power (pos 52)) (power (negsuc 51)) d
+    && option_map_or (float_step d.low d.high) d.step true
 
 -- "step 1 to 2^52"
 unfoldable pub int_step : ℤ → Bool

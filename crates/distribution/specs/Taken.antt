@@ -1,4 +1,5 @@
--- "Taken: float finite, magnitude ≤ 2^53, with log ≥ 2^-53; int magnitude ≤ 2^52, with log ≥ 1; choice below the count." Definitions only.
+-- "Taken: float finite, magnitude ≤ 2^53, with log ≥ 2^-53; int magnitude ≤ 2^52, with log ≥ 1; choice below the count."
+-- Definitions only.
 use Rattle.std.specs.Prelude.{ℕ, ◌^◌, Bool, false, ltb, ℤ, pos, negsuc, neg_ℤ, Float}
 use Rattle.std.specs.Int.Signed.{le_z}
 use Rattle.std.specs.Float.{binary64}

@@ -22,7 +22,7 @@ use Rattle.distribution.specs.declared.NumberDistribution.{NumberDistribution}
 use Rattle.distribution.specs.declared.Distribution.{Distribution}
 use Rattle.distribution.specs.Numbers.{FloatDistribution, IntDistribution}
 use Rattle.distribution.specs.Shape.{power, shape_of}
-use Rattle.distribution_words.specs.Words.{flag, only, flags_ok, number_of, number_words, words_of, checked_of, read_of}
+use Rattle.distribution_words.specs.Words.{flag, only, flags_ok, number_of, number_read, categorical_read, number_words, words_of, checked_of, read_of}
 use Rattle.distribution_words.specs.RoundTrip.{Held, RoundTrip}
 use Rattle.distribution.proofs.Facts.{parts, Bounded, if-some, float-rules, int-rules}
 use Rattle.distribution_words.proofs.Read.{malformed, only-is}
@@ -141,7 +141,7 @@ if-stepped false x P p = tt
 
 module _ (low high log stepped step : ℕ) (d : Distribution) where
   module _ (l : low < 2 ^ 64) (h : high < 2 ^ 64) (s : step < 2 ^ 64) where
-    float-words : only (flags_ok log stepped step) (checked_of (Distribution.Float (number_of (of_bits binary64) low high log stepped step))) ≡ Some d
+    float-words : number_read Distribution.Float (of_bits binary64) low high log stepped step ≡ Some d
         → From (1 ∷ low ∷ high ∷ log ∷ stepped ∷ step ∷ []) d
     unfolding shape_of words_of
     float-words e =
@@ -155,7 +155,7 @@ module _ (low high log stepped step : ℕ) (d : Distribution) where
               (λ g. to_bits-of_bits binary64 step s (le-real (power (negsuc 51)) (of_bits binary64 step) (r.steps (of_bits binary64 step) (ap (λ (b : Bool). cond b (Some (of_bits binary64 step)) None) (is_true (eqb stepped 1) g))).least).1),
         ))
 
-    int-words : only (flags_ok log stepped step) (checked_of (Distribution.Int (number_of (to_z w64) low high log stepped step))) ≡ Some d
+    int-words : number_read Distribution.Int (to_z w64) low high log stepped step ≡ Some d
         → From (2 ∷ low ∷ high ∷ log ∷ stepped ∷ step ∷ []) d
     unfolding words_of
     int-words e =
@@ -166,7 +166,7 @@ module _ (low high log stepped step : ℕ) (d : Distribution) where
               (λ g. of_z-to_z w64 step (record { fits = s })),
         ))
 
-  categorical-words : only (eqb high 0 && eqb log 0 && eqb stepped 0 && eqb step 0) (checked_of (Distribution.Categorical (record { n_choices = low }))) ≡ Some d
+  categorical-words : categorical_read low high log stepped step ≡ Some d
       → From (3 ∷ low ∷ high ∷ log ∷ stepped ∷ step ∷ []) d
   unfolding words_of
   categorical-words e =
@@ -177,9 +177,9 @@ words : (kind low high log stepped step : ℕ) (d : Distribution) → low < 2 ^ 
     → read_of kind low high log stepped step ≡ Some d → From (kind ∷ low ∷ high ∷ log ∷ stepped ∷ step ∷ []) d
 unfolding read_of
 words kind low high log stepped step d l h s e =
-    let f = only (flags_ok log stepped step) (checked_of (Distribution.Float (number_of (of_bits binary64) low high log stepped step))) in
-    let i = only (flags_ok log stepped step) (checked_of (Distribution.Int (number_of (to_z w64) low high log stepped step))) in
-    let c = only (eqb high 0 && eqb log 0 && eqb stepped 0 && eqb step 0) (checked_of (Distribution.Categorical (record { n_choices = low }))) in
+    let f = number_read Distribution.Float (of_bits binary64) low high log stepped step in
+    let i = number_read Distribution.Int (to_z w64) low high log stepped step in
+    let c = categorical_read low high log stepped step in
     elim (pick (eqb kind 1) f (cond (eqb kind 2) i (cond (eqb kind 3) c None)) d e) [
       | inl p ↦ at 1 p.0 (float-words low high log stepped step d l h s p.1)
       | inr e ↦ elim (pick (eqb kind 2) i (cond (eqb kind 3) c None) d e) [

@@ -8,7 +8,8 @@ use Rattle.distribution_words.specs.Words.{words_of, read_of}
 
 -- the floats are binary64's, as those of a program are; integers and counts fit a word by their limits
 abbrev pub Held : Distribution → Type 0
-Held (Distribution.Float d) = T (fits binary64 d.low) × T (fits binary64 d.high) × IfSome d.step (λ step. T (fits binary64 step))
+Held (Distribution.Float d) =
+    T (fits binary64 d.low) × T (fits binary64 d.high) × IfSome d.step (λ step. T (fits binary64 step))
 Held (Distribution.Int d) = Unit
 Held (Distribution.Categorical d) = Unit
 
