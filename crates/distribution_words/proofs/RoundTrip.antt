@@ -1,12 +1,12 @@
 -- The round trip of a distribution and its six words, kind by kind: a word that is no NaN's is the word of the float read from it. Assumes nothing.
 use Rattle.std.specs.Prelude.{Option, Some, None, IfSome}
 use Rattle.std.specs.Option.{is_some, option_map, unwrap_or}
-use mathlib.Core.Path.{◌≡◌, refl, sym, ap, subst, ◌∙◌}
+use mathlib.Core.Path.{◌≡◌, refl, ap, subst, ◌∙◌}
 use Prim.Native.Nat.{ℕ, zero, suc, ◌^◌, ◌<◌}
 use native.Mathlib.Omega.{arith}
 use mathlib.Core.Bool.{Bool, true, false, ◌&&◌, ◌||◌, cond}
-use mathlib.Core.Logic.{◌⊎◌, inl, inr}
-use mathlib.Core.List.{List, [], ◌∷◌}
+use mathlib.Core.Logic.{inl, inr}
+use mathlib.Core.List.{[], ◌∷◌}
 use lib.Dec.{T, leb, leb→le, eqb, eqb→eq}
 use lib.ListN.{get_or}
 use lib.IntN.{ℤ, pos, negsuc}
@@ -22,7 +22,7 @@ use Rattle.distribution.specs.declared.NumberDistribution.{NumberDistribution}
 use Rattle.distribution.specs.declared.Distribution.{Distribution}
 use Rattle.distribution.specs.Numbers.{FloatDistribution, IntDistribution}
 use Rattle.distribution.specs.Shape.{power, shape_of}
-use Rattle.distribution_words.specs.Words.{flag, only, flags_ok, number_of, number_read, categorical_read, number_words, words_of, checked_of, read_of}
+use Rattle.distribution_words.specs.Words.{flag, only, flags_ok, number_of, number_words, words_of, checked_of, read_of}
 use Rattle.distribution_words.specs.RoundTrip.{Held, RoundTrip}
 use Rattle.distribution.proofs.Facts.{parts, Bounded, if-some, float-rules, int-rules}
 use Rattle.distribution_words.proofs.Read.{malformed, only-is}
@@ -98,101 +98,83 @@ reads (Distribution.Categorical d) h t = checked-is (Distribution.Categorical d)
 
 -- ---- from six words
 
-pick : (b : Bool) (x y : Option Distribution) (d : Distribution) → cond b x y ≡ Some d → (T b × (x ≡ Some d)) ⊎ (y ≡ Some d)
-pick true x y d e = inl (tt, e)
-pick false x y d e = inr e
+cond-is : {P : Type 0} (b : Bool) (x y : Option Distribution) (d : Distribution) → (T b → x ≡ Some d → P) → (y ≡ Some d → P) → cond b x y ≡ Some d → P
+cond-is true x y d f g e = f tt e
+cond-is false x y d f g e = g e
 
--- that the distribution d is read from the words ws
-abbrev From : List ℕ → Distribution → Type 0
-From ws d = Held d × T (shape_of d) × (words_of d ≡ ws)
-
-from : (ws : List ℕ) (b : Bool) (x d : Distribution) → only b (checked_of x) ≡ Some d → (T b → T (shape_of x) → Held x × (words_of x ≡ ws)) → From ws d
+read-is : (P : Distribution → Type 0) (b : Bool) (x d : Distribution) → (T b → T (shape_of x) → P x) → only b (checked_of x) ≡ Some d → P d
 unfolding checked_of
-from ws b x d e k =
+read-is P b x d k e =
     let q = only-is b (checked_of x) d e in
     let p = only-is (shape_of x) (Some x) d q.1 in
     let same : x ≡ d = cc p.1 in
-    let h = k q.0 p.0 in
-    subst (From ws) same (h.0, p.0, h.1)
+    subst P same (k q.0 p.0)
+
+-- what is read is well-formed, and by its kind one of three
+module _ (P : Distribution → Type 0) (kind low high log stepped step : ℕ) where
+  by-kind : (let x = Distribution.Float (number_of (of_bits binary64) low high log stepped step) in T (eqb kind 1) → T (flags_ok log stepped step) → T (shape_of x) → P x)
+      → (let x = Distribution.Int (number_of (to_z w64) low high log stepped step) in T (eqb kind 2) → T (flags_ok log stepped step) → T (shape_of x) → P x)
+      → (let x = Distribution.Categorical (record { n_choices = low }) in T (eqb kind 3) → T (eqb high 0 && eqb log 0 && eqb stepped 0 && eqb step 0) → T (shape_of x) → P x)
+      → (d : Distribution) → read_of kind low high log stepped step ≡ Some d → P d
+  unfolding read_of
+  by-kind f i c d e =
+      cond-is (eqb kind 1) _ _ d (λ k e. read-is P (flags_ok log stepped step) _ d (f k) e)
+      (λ e. cond-is (eqb kind 2) _ _ d (λ k e. read-is P (flags_ok log stepped step) _ d (i k) e)
+      (λ e. cond-is (eqb kind 3) _ _ d (λ k e. read-is P (eqb high 0 && eqb log 0 && eqb stepped 0 && eqb step 0) _ d (c k) e) (λ e. absurd (malformed d e)) e) e) e
+
+if-stepped : {A : Type 0} (b : Bool) (x : A) (P : A → Type 0) → P x → IfSome (cond b (Some x) None) P
+if-stepped true x P p = p
+if-stepped false x P p = tt
+
+pub read_held : (kind low high log stepped step : ℕ) (d : Distribution) → read_of kind low high log stepped step ≡ Some d → Held d × T (shape_of d)
+read_held kind low high log stepped step =
+    by-kind (λ d. Held d × T (shape_of d)) kind low high log stepped step
+    (λ k f t. ((of_bits-fits binary64 low, of_bits-fits binary64 high, if-stepped (eqb stepped 1) (of_bits binary64 step) _ (of_bits-fits binary64 step)), t))
+    (λ k f t. (tt, t)) (λ k z t. (tt, t))
 
 flag-word : (n : ℕ) → T (leb n 1) → flag (eqb n 1) ≡ n
 flag-word zero t = refl
 flag-word (suc zero) t = refl
 flag-word (suc (suc n)) t = absurd (let h = leb→le (suc (suc n)) 1 t in omega arith)
 
-module _ {A : Type 0} (word : A → ℕ) (number : ℕ → A) (kind low high log : ℕ) where
-  step-words : (stepped step : ℕ) → T (eqb stepped 1 || (eqb stepped 0 && eqb step 0)) → (T (eqb stepped 1) → word (number step) ≡ step)
+module _ {A : Type 0} (word : A → ℕ) (number : ℕ → A) (kind low high log stepped step : ℕ) where
+  step-words : T (eqb stepped 1 || (eqb stepped 0 && eqb step 0)) → (T (eqb stepped 1) → word (number step) ≡ step)
       → let o = cond (eqb stepped 1) (Some (number step)) None in (flag (is_some o) ≡ stepped) × (unwrap_or (option_map word o) 0 ≡ step)
-  step-words stepped step t h =
+  step-words t h =
       elim (or_split (eqb stepped 1) (eqb stepped 0 && eqb step 0) t) [
         | inl g ↦ rw (eqb→eq stepped 1 g) (refl, h g)
         | inr g ↦ rw (eqb→eq stepped 0 (and_l (eqb stepped 0) (eqb step 0) g), eqb→eq step 0 (and_r (eqb stepped 0) (eqb step 0) g)) (refl, refl)
       ]
 
-  number-words : (stepped step : ℕ) → T (flags_ok log stepped step) → word (number low) ≡ low → word (number high) ≡ high → (T (eqb stepped 1) → word (number step) ≡ step)
-      → number_words word kind (number_of number low high log stepped step) ≡ kind ∷ low ∷ high ∷ log ∷ stepped ∷ step ∷ []
-  number-words stepped step t l h s =
-      let p = step-words stepped step (search parts) s in
-      rw (l, h, flag-word log (search parts), p.0, p.1)
-
-if-stepped : {A : Type 0} (b : Bool) (x : A) (P : A → Type 0) → P x → IfSome (cond b (Some x) None) P
-if-stepped true x P p = p
-if-stepped false x P p = tt
-
-module _ (low high log stepped step : ℕ) (d : Distribution) where
-  module _ (l : low < 2 ^ 64) (h : high < 2 ^ 64) (s : step < 2 ^ 64) where
-    float-words : number_read Distribution.Float (of_bits binary64) low high log stepped step ≡ Some d
-        → From (1 ∷ low ∷ high ∷ log ∷ stepped ∷ step ∷ []) d
-    unfolding shape_of words_of
-    float-words e =
-        let x : FloatDistribution = number_of (of_bits binary64) low high log stepped step in
-        from (1 ∷ low ∷ high ∷ log ∷ stepped ∷ step ∷ []) (flags_ok log stepped step) (Distribution.Float x) d e
-        (λ b t.
-        let r = float-rules x t in
-        let o = le-real x.low x.high r.order in (
-          (of_bits-fits binary64 low, of_bits-fits binary64 high, if-stepped (eqb stepped 1) (of_bits binary64 step) _ (of_bits-fits binary64 step)),
-          number-words (to_bits binary64) (of_bits binary64) 1 low high log stepped step b (to_bits-of_bits binary64 low l o.0) (to_bits-of_bits binary64 high h o.1)
-              (λ g. to_bits-of_bits binary64 step s (le-real (power (negsuc 51)) (of_bits binary64 step) (r.steps (of_bits binary64 step) (ap (λ (b : Bool). cond b (Some (of_bits binary64 step)) None) (is_true (eqb stepped 1) g))).least).1),
-        ))
-
-    int-words : number_read Distribution.Int (to_z w64) low high log stepped step ≡ Some d
-        → From (2 ∷ low ∷ high ∷ log ∷ stepped ∷ step ∷ []) d
-    unfolding words_of
-    int-words e =
-        from (2 ∷ low ∷ high ∷ log ∷ stepped ∷ step ∷ []) (flags_ok log stepped step) (Distribution.Int (number_of (to_z w64) low high log stepped step)) d e
-        (λ b t. (
-          tt,
-          number-words (of_z w64) (to_z w64) 2 low high log stepped step b (of_z-to_z w64 low (record { fits = l })) (of_z-to_z w64 high (record { fits = h }))
-              (λ g. of_z-to_z w64 step (record { fits = s })),
-        ))
-
-  categorical-words : categorical_read low high log stepped step ≡ Some d
-      → From (3 ∷ low ∷ high ∷ log ∷ stepped ∷ step ∷ []) d
-  unfolding words_of
-  categorical-words e =
-      from (3 ∷ low ∷ high ∷ log ∷ stepped ∷ step ∷ []) (eqb high 0 && eqb log 0 && eqb stepped 0 && eqb step 0) (Distribution.Categorical (record { n_choices = low })) d e
-      (λ q t. (tt, rw (eqb→eq high 0 (search parts), eqb→eq log 0 (search parts), eqb→eq stepped 0 (search parts), eqb→eq step 0 (search parts))))
+  number-words : (k : ℕ) → T (eqb kind k) → T (flags_ok log stepped step) → word (number low) ≡ low → word (number high) ≡ high → (T (eqb stepped 1) → word (number step) ≡ step)
+      → number_words word k (number_of number low high log stepped step) ≡ kind ∷ low ∷ high ∷ log ∷ stepped ∷ step ∷ []
+  number-words k e t l h s =
+      let p = step-words (search parts) s in
+      rw (eqb→eq kind k e, l, h, flag-word log (search parts), p.0, p.1)
 
 words : (kind low high log stepped step : ℕ) (d : Distribution) → low < 2 ^ 64 → high < 2 ^ 64 → step < 2 ^ 64
-    → read_of kind low high log stepped step ≡ Some d → From (kind ∷ low ∷ high ∷ log ∷ stepped ∷ step ∷ []) d
-unfolding read_of
+    → read_of kind low high log stepped step ≡ Some d → Held d × T (shape_of d) × (words_of d ≡ kind ∷ low ∷ high ∷ log ∷ stepped ∷ step ∷ [])
+unfolding shape_of words_of
 words kind low high log stepped step d l h s e =
-    let f = number_read Distribution.Float (of_bits binary64) low high log stepped step in
-    let i = number_read Distribution.Int (to_z w64) low high log stepped step in
-    let c = categorical_read low high log stepped step in
-    elim (pick (eqb kind 1) f (cond (eqb kind 2) i (cond (eqb kind 3) c None)) d e) [
-      | inl p ↦ at 1 p.0 (float-words low high log stepped step d l h s p.1)
-      | inr e ↦ elim (pick (eqb kind 2) i (cond (eqb kind 3) c None) d e) [
-        | inl p ↦ at 2 p.0 (int-words low high log stepped step d l h s p.1)
-        | inr e ↦ elim (pick (eqb kind 3) c None d e) [
-          | inl p ↦ at 3 p.0 (categorical-words low high log stepped step d p.1)
-          | inr e ↦ absurd (malformed d e)
-        ]
-      ]
-    ]
+    let r = read_held kind low high log stepped step d e in (
+      r.0,
+      r.1,
+      by-kind (λ d. words_of d ≡ kind ∷ low ∷ high ∷ log ∷ stepped ∷ step ∷ []) kind low high log stepped step float int choice d e,
+    )
   where
-    at : (k : ℕ) → T (eqb kind k) → From (k ∷ low ∷ high ∷ log ∷ stepped ∷ step ∷ []) d → From (kind ∷ low ∷ high ∷ log ∷ stepped ∷ step ∷ []) d
-    at k t g = subst (λ (n : ℕ). From (n ∷ low ∷ high ∷ log ∷ stepped ∷ step ∷ []) d) (sym (eqb→eq kind k t)) g
+    float : T (eqb kind 1) → T (flags_ok log stepped step) → (let x = Distribution.Float (number_of (of_bits binary64) low high log stepped step) in T (shape_of x) → words_of x ≡ kind ∷ low ∷ high ∷ log ∷ stepped ∷ step ∷ [])
+    float k f t =
+        let r = float-rules (number_of (of_bits binary64) low high log stepped step) t in
+        let o = le-real (of_bits binary64 low) (of_bits binary64 high) r.order in
+        number-words (to_bits binary64) (of_bits binary64) kind low high log stepped step 1 k f (to_bits-of_bits binary64 low l o.0) (to_bits-of_bits binary64 high h o.1)
+        (λ g. to_bits-of_bits binary64 step s (le-real (power (negsuc 51)) (of_bits binary64 step) (r.steps (of_bits binary64 step) (ap (λ (b : Bool). cond b (Some (of_bits binary64 step)) None) (is_true (eqb stepped 1) g))).least).1)
+
+    int : T (eqb kind 2) → T (flags_ok log stepped step) → (let x = Distribution.Int (number_of (to_z w64) low high log stepped step) in T (shape_of x) → words_of x ≡ kind ∷ low ∷ high ∷ log ∷ stepped ∷ step ∷ [])
+    int k f t =
+        number-words (of_z w64) (to_z w64) kind low high log stepped step 2 k f (of_z-to_z w64 low (record { fits = l })) (of_z-to_z w64 high (record { fits = h })) (λ g. of_z-to_z w64 step (record { fits = s }))
+
+    choice : T (eqb kind 3) → T (eqb high 0 && eqb log 0 && eqb stepped 0 && eqb step 0) → (let x = Distribution.Categorical (record { n_choices = low }) in T (shape_of x) → words_of x ≡ kind ∷ low ∷ high ∷ log ∷ stepped ∷ step ∷ [])
+    choice k z t = rw (eqb→eq kind 3 k, eqb→eq high 0 (search parts), eqb→eq log 0 (search parts), eqb→eq stepped 0 (search parts), eqb→eq step 0 (search parts))
 
 pub round_trip : RoundTrip
 round_trip = record { reads = reads; words = words }
