@@ -37,7 +37,8 @@ abbrev pub log_float : FloatDistribution → Float → ParamValue
 log_float d v = option_map_or (λ step. float_of d v) d.step (ParamValue.Float v)
 
 unfoldable pub log_float_random : ℕ → FloatDistribution → Result (Draw ParamValue) Refusal
-log_float_random w d = drawing (λ u. made (log_float d) (log_range (ends_of (Distribution.Float d)) u)) (unit_draw_of w)
+log_float_random w d =
+    drawing (λ u. made (log_float d) (log_range (ends_of (Distribution.Float d)) u)) (unit_draw_of w)
 
 -- "let n_steps = ((d.high - d.low) / step).floor() as i64; let k = rng.i64(0..=n_steps); d.low + (k as f64) * step"
 unfoldable pub stepped_float_random : ℕ → Float → Float → Float → Result (Draw ParamValue) Refusal

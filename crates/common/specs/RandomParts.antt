@@ -11,7 +11,8 @@ use Rattle.common.specs.Random.{log_range}
 
 -- the steps to the value drawn on log scale do not saturate
 abbrev pub LogFits : ℕ → IntDistribution → Type 0
-LogFits w d = (r : Draw Float) → unit_draw_of w ≡ Ok r → OutcomeFits d (log_range (ends_of (Distribution.Int d)) r.value)
+LogFits w d =
+    (r : Draw Float) → unit_draw_of w ≡ Ok r → OutcomeFits d (log_range (ends_of (Distribution.Int d)) r.value)
 
 -- ends in order and at most 2 ^ 52 in magnitude, and a step from 1 to 2 ^ 52
 pub record Stepped (low high step : ℤ) : Type 0 where

@@ -68,6 +68,7 @@ fn decoded(x: f64, d: Distribution) -> Result<ParamValue, Refusal>
 }
 
 // The decoding of any value: 11 where the distribution is malformed or a choice, or the value is out of its domain.
+#[tactic(auto, unfolding(crate::specs::Decode::from_internal_of))]
 pub fn from_internal(x: f64, d: Distribution) -> Result<ParamValue, Refusal>
     ensures { result ≡ from_internal_of x d }
 {

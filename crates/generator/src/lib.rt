@@ -1,4 +1,5 @@
-// The generator: one word, lent to a draw and moved on there. Each draw is that of the word, and a refusal leaves the word as it was.
+// The generator: one word, lent to a draw and moved on there. Each draw is that of the word, and a refusal leaves the
+// word as it was.
 #![tactic(auto)]
 
 ghost use Rattle.std.specs.Prelude.{◌≡◌};

@@ -30,6 +30,7 @@ impl<T: Copy> Draw<T> {
 }
 
 // One move: the shifts left 13, right 7, left 17.
+#[tactic(auto, unfolding(crate::specs::Generator::next_of))]
 fn step(w: u64) -> u64
     ensures { result ≡ next_of w }
 {
@@ -64,6 +65,7 @@ pub fn unit_float(w: u64) -> Result<Draw<f64>, Refusal>
 }
 
 // Whether a whole number can be drawn in a..=b. With a <= b, one limit for each end is enough: 2^53 in magnitude.
+#[tactic(auto, unfolding(crate::specs::Draws::range_ok))]
 fn range_ok(a: i64, b: i64) -> bool
     ensures { result ≡ range_ok a b }
 {

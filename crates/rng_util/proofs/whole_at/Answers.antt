@@ -48,9 +48,6 @@ overflow_sub-width c = rw (computed-is (goal.at.overflow_sub-width c).Start) (re
 pub overflow_cast-width : goal.overflow_cast-width
 overflow_cast-width c = rw (stored_is (goal.at.overflow_cast-width c).Start) (tt, record { fits = omega (arith, small (goal.at.overflow_cast-width c).Start) })
 
-pub overflow_add-width : goal.overflow_add-width
-overflow_add-width c = rw (stored_is (goal.at.overflow_add-width c).Start) (record { fits = omega (arith, small (goal.at.overflow_add-width c).Start) })
-
 pub overflow_cast-result : goal.overflow_cast-result
 overflow_cast-result c = rw (stored_is (goal.at.overflow_cast-result c).Start) (record { sfits = remainder-fits (goal.at.overflow_cast-result c).Start })
 

@@ -9,7 +9,7 @@ use Rattle.arith.proofs.Tests.{taken}
 use Rattle.distribution.specs.declared.Distribution.{Distribution}
 use Rattle.distribution.specs.Shape.{shape_of}
 use Rattle.encoding.specs.Bounds.{bounds_of, ends_of}
-use Rattle.common.specs.Decode.{inside, from_internal_of}
+use Rattle.common.specs.Decode.{inside}
 use Rattle.common.proofs.Domain.{decodable}
 use Rattle.common.proofs.decode.from_internal.Goals as goal
 use Rattle.common.proofs.decode.from_internal.Goals.{After-is_inside}
@@ -26,13 +26,5 @@ shaped x d h = go (shape_of d) h
     go true t = tt
     go false t = t
 
-pub returns-then-not-is_inside : goal.returns-then-not-is_inside
-unfolding from_internal_of
-returns-then-not-is_inside c = rw (tested (goal.at.returns-then-not-is_inside c).After-is_inside ∙ c.if-not-is_inside.true)
-
 pub decoded-requires : goal.decoded-requires
 decoded-requires c = let i = taken (tested (goal.at.decoded-requires c).After-is_inside ∙ c.if-not-is_inside.false) in decodable c.args.x c.args.d (shaped c.args.x c.args.d i) i
-
-pub returns : goal.returns
-unfolding from_internal_of
-returns c = c.decoded.ensures ∙ rw (tested (goal.at.returns c).After-is_inside ∙ c.if-not-is_inside.false)

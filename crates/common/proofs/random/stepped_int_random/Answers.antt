@@ -6,6 +6,7 @@ use mir.Syntax.{w64}
 use mir.Val.{SFits, to_z, of_z}
 use mir.ValLaws.{to_z-of_z}
 use Rattle.std.specs.Prelude.{Ok}
+use Rattle.std.proofs.lemmas.Result.{err_from_is_err_and}
 use Rattle.rng_util.specs.declared.Draw.{Draw}
 use Rattle.rng_util.specs.Draws.{whole_draw_of}
 use Rattle.common.specs.Random.{stepped_int_random}
@@ -33,10 +34,13 @@ quotient c =
     (λ i. quot_z ((ap (λ (z : ℤ). to_z w64 (of_z w64 z)) (difference c) ∙ to_z-of_z w64 _ (steps.span_fits _ _ _ c.requires) ∙ sym (steps.span-is _ _ _ c.requires)) i) (step c i))
     ∙ steps.steps-is c.args.low c.args.high c.args.step c.requires
 
+-- the draw of a number of steps
+asked : (c : After-whole_number) → c.whole_number.result ≡ whole_draw_of c.args.w (pos 0) (pos (steps.steps c.args.low c.args.high c.args.step c.requires))
+asked c = c.whole_number.ensures ∙ ap (whole_draw_of c.args.w (pos 0)) (ap (λ (z : ℤ). to_z w64 (of_z w64 z)) (quotient c.before) ∙ to_z-of_z w64 _ (steps.steps-fit _ _ _ c.requires))
+
 module _ (c : After-whole_number) (r : Draw ℤ) (e : c.whole_number.result ≡ Ok r) where
-  -- the number of steps drawn
   drawn : whole_draw_of c.args.w (pos 0) (pos (steps.steps c.args.low c.args.high c.args.step c.requires)) ≡ Ok r
-  drawn = sym (c.whole_number.ensures ∙ ap (whole_draw_of c.args.w (pos 0)) (ap (λ (z : ℤ). to_z w64 (of_z w64 z)) (quotient c.before) ∙ to_z-of_z w64 _ (steps.steps-fit _ _ _ c.requires))) ∙ e
+  drawn = sym (asked c) ∙ e
 
   count : UpTo (steps.steps c.args.low c.args.high c.args.step c.requires) r.value
   count = steps.drawn-up-to c.args.w _ r drawn
@@ -63,6 +67,12 @@ pub overflow_add-low : goal.overflow_add-low
 overflow_add-low c =
     let s = (goal.at.overflow_add-low c).After-whole_number in
     subst (SFits w64) (sym (sum s c.in_ok-r.r c.in_ok-r.was)) (sum-fits s c.in_ok-r.r c.in_ok-r.was)
+
+pub returns-in_err-r : goal.returns-in_err-r
+unfolding stepped_int_random
+returns-in_err-r c =
+    let p = err_from_is_err_and c.from_residual.result c.from_residual.ensures.1 in
+    rw (p.1, p.2, steps.steps-is _ _ _ c.requires, ← asked (goal.at.returns-in_err-r c).After-whole_number, c.in_err-r.was)
 
 pub returns : goal.returns
 unfolding stepped_int_random
