@@ -18,40 +18,39 @@ use Rattle.arith.proofs.Tests.{either}
 use Rattle.arith.proofs.Order as order
 use Rattle.arith.proofs.Within.{abs-round, abs-real, sub_in, div-in, widen, within, within-finite, upper, lower, le-abs}
 use Rattle.arith.proofs.Mono.{add-rounded}
-use Rattle.distribution.specs.declared.FloatDistribution.{FloatDistribution}
-use Rattle.distribution.specs.declared.IntDistribution.{IntDistribution}
+use Rattle.distribution.specs.Numbers.{FloatDistribution, IntDistribution}
 use Rattle.distribution.specs.declared.Distribution.{Distribution}
 use Rattle.distribution.specs.declared.ParamValue.{ParamValue}
 use Rattle.distribution.specs.Shape.{power, within_z, float_shape, int_shape}
 use Rattle.distribution.specs.Shape as shape
 use Rattle.distribution.specs.Taken.{taken_of}
-use Rattle.distribution.proofs.Facts.{FloatRules, FloatStepRules, float-rules, int-rules, asking}
+use Rattle.distribution.proofs.Facts.{FloatRules, FloatStepRules, float-rules, int-rules, asking, by-step}
 use Rattle.distribution.proofs.Whole.{le_z-refl}
-use Rattle.common.specs.Grid.{raised_to, clamp_of, float_grid, raised_to_z, clamp_z}
+use Rattle.common.specs.Grid.{raised_to, clamp_of, float_grid}
 use Rattle.encoding.proofs.EndLaws.{le_z-trans}
 use Rattle.common.proofs.Domain.{round-within}
 
 -- ---- the clamps
 
-raised : (low v : Float) → real low → real v → T (le low (raised_to low v))
+raised : (low v : Float) → real low → real v → T (le low (raised_to lt low v))
 raised low v p q = elim (either (lt v low)) [
   | inl h ↦ rw (is_true (lt v low) h) (order.reflexive low p)
   | inr h ↦ rw (is_false (lt v low) h) (order.le_of_not_lt v low q p h)
 ]
 
-pub clamp-between : (low high v : Float) → real v → T (le low high) → Between low high (clamp_of low high v)
+pub clamp-between : (low high v : Float) → real v → T (le low high) → Between low high (clamp_of lt low high v)
 clamp-between low high v q h =
     let p = order.le-real low high h in
-    let r = raised_to low v in
+    let r = raised_to lt low v in
     let l = raised low v p.0 q in
     elim (either (lt high r)) [
       | inl g ↦ rw (is_true (lt high r) g) (h, order.reflexive high p.1)
       | inr g ↦ rw (is_false (lt high r) g) (l, order.le_of_not_lt high r p.1 (order.le-real low r l).1 g)
     ]
 
-pub clamp-whole : (low high z : ℤ) → T (le_z low high) → T (le_z low (clamp_z low high z)) × T (le_z (clamp_z low high z) high)
+pub clamp-whole : (low high z : ℤ) → T (le_z low high) → T (le_z low (clamp_of lt_z low high z)) × T (le_z (clamp_of lt_z low high z) high)
 clamp-whole low high z h =
-    let r = raised_to_z low z in
+    let r = raised_to lt_z low z in
     let l : T (le_z low r) = elim (either (lt_z z low)) [ inl g ↦ rw (is_true (lt_z z low) g) (le_z-refl low) | inr g ↦ rw (is_false (lt_z z low) g) (lt_z_no {a = z} {b = low} g).le ] in
     elim (either (lt_z high r)) [
       | inl g ↦ rw (is_true (lt_z high r) g) (h, le_z-refl high)
@@ -86,19 +85,18 @@ step-size low high step r =
 
 pub float-grid-real : (d : FloatDistribution) (v : Float) → T (float_shape d) → Within (power (pos 57)) v → real (float_grid d v)
 unfolding float_grid
-float-grid-real d v t w = elim (either d.stepped) [ inl s ↦ rw (is_true d.stepped s) (stepped s) | inr s ↦ rw (is_false d.stepped s) (order.le-real v (power (pos 57)) (upper (power (pos 57)) v w)).0 ]
+float-grid-real d v t w = by-step real _ d.step v (λ step e. stepped step (r.steps step e)) (λ _. (order.le-real v (power (pos 57)) (upper (power (pos 57)) v w)).0)
   where
     r : FloatRules d
     r = float-rules d t
 
-    stepped : T d.stepped → real (add binary64 d.low (mul binary64 (round_of (div binary64 (sub binary64 v d.low) d.step)) d.step))
-    stepped s =
-        let g = r.stepped s in
+    stepped : (step : Float) → FloatStepRules d.low d.high step → real (add binary64 d.low (mul binary64 (round_of (div binary64 (sub binary64 v d.low) step)) step))
+    stepped step g =
         let x = sub binary64 v d.low in
-        let q = div binary64 x d.step in
+        let q = div binary64 x step in
         let a : Within (power (pos 58)) x = sub_in binary64 (power (pos 57)) (power (pos 52)) (power (pos 58)) v d.low (unfold add le in tt) w r.low in
-        let b : Within (power (pos 110)) q = div-in binary64 (power (pos 58)) (power (negsuc 51)) (power (pos 110)) x d.step (unfold div le in tt) (step-size d.low d.high d.step g) a in
-        add-real d.low (mul binary64 (round_of q) d.step) (within-finite (power (pos 52)) d.low tt r.low) (mul-real (round_of q) d.step (within-finite (power (pos 110)) (round_of q) tt (round-within 110 (lit< tt) q b)) g.finite)
+        let b : Within (power (pos 110)) q = div-in binary64 (power (pos 58)) (power (negsuc 51)) (power (pos 110)) x step (unfold div le in tt) (step-size d.low d.high step g) a in
+        add-real d.low (mul binary64 (round_of q) step) (within-finite (power (pos 52)) d.low tt r.low) (mul-real (round_of q) step (within-finite (power (pos 110)) (round_of q) tt (round-within 110 (lit< tt) q b)) g.finite)
 
 -- ---- the Taken rule
 

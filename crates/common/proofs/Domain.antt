@@ -1,8 +1,7 @@
 -- Nothing saturates where a value is decoded or drawn: the steps of an int fit, for each value that decoding accepts and each that a draw on log scale gives. A step is from 2 ^ a to 2 ^ (a + 1), so a quotient by it is at most 2 ^ (58 - a) in size, a whole number, and stays so when rounded.
 use Rattle.refusal.specs.declared.Refusal.{Refusal}
-use Rattle.std.specs.Prelude.{Result, Ok, Err, Some}
+use Rattle.std.specs.Prelude.{Result, Ok, Err, Some, Option, None, IfSome}
 use mathlib.Core.Path.{◌≡◌, refl, sym, ap, ◌∙◌, subst}
-use mathlib.Core.Logic.{inl, inr}
 use Prim.Native.Nat.{ℕ, zero, suc, ◌+◌, ◌-◌, ◌*◌, ◌/◌, ◌^◌, ◌≤◌, ◌<◌, min}
 use native.Mathlib.Nat.{le_trans, le_of_eq, lt_of_le_of_lt, lt_of_lt_of_le, le_of_lt, mul-one, one-mul, mul_assoc, mul_comm, mul_left_comm, mul-le-mul, mul-le-mul_right, mul-pos, suc-mul, zero-lt-suc, le_of_suc-le-suc, div-lt_iff_lt-mul, div-le_of_le-mul}
 use native.Mathlib.Omega.{arith}
@@ -13,7 +12,6 @@ use lib.Pow.{pow-add, pow_pos, pow-lt}
 use lib.IntN.{ℤ, pos, negsuc, neg_ℤ, nat_abs, ◌+ℤ◌, ◌*ℤ◌}
 use lib.Signed.{le_z}
 use lib.Ieee.{Float, nan, inf, fin, binary64, up, down, size, round, add, sub, div, neg, le, fits, of_bits, of_int, to_signed}
-use lib.Ieee.Bits.{is_true, is_false}
 use lib.Ieee.Digits.{size-lt, size_reaches, size-le}
 use lib.Ieee.Fits.{down_pos, and_i, and_l, and_r}
 use lib.Ieee.Order.{round_mono}
@@ -22,7 +20,6 @@ use mir.Syntax.{w64}
 use mir.Val.{SFits}
 use Rattle.arith.specs.Bounds.{abs, Within, Between}
 use Rattle.arith.specs.Rounding.{nearest_of, round_of}
-use Rattle.arith.proofs.Tests.{taken, either}
 use Rattle.arith.proofs.Order as order
 use Rattle.arith.proofs.Within.{bound, widen, cross, abs-round, div-within, add-in, sub_in, within, within-finite, upper, lower}
 use Rattle.arith.proofs.Held.{held}
@@ -33,15 +30,16 @@ use Rattle.rng_util.specs.Draws.{unit_of, read_by, word_draw_of, unit_draw_of}
 use Rattle.rng_util.specs.Generator.{next_of}
 use Rattle.rng_util.proofs.Nonzero.{Nonzero, next-nonzero}
 use Rattle.rng_util.proofs.Unit as unit
-use Rattle.distribution.specs.declared.IntDistribution.{IntDistribution}
+use Rattle.distribution.specs.Numbers.{IntDistribution}
 use Rattle.distribution.specs.declared.Distribution.{Distribution}
 use Rattle.distribution.specs.Shape.{power, shape_of, int_shape, continuous_of}
-use Rattle.distribution.proofs.Facts.{Bounded, IntRules, int-rules}
+use Rattle.distribution.proofs.Facts.{Bounded, IntRules, if-some, int-rules}
 use Rattle.encoding.specs.Bounds.{InternalBounds, ends_of, bounds_of}
 use Rattle.common.specs.Decode.{inside, one, unscale_of}
 use Rattle.common.specs.DecodeParts.{Decodable}
-use Rattle.common.specs.Grid.{round_z, int_grid}
-use Rattle.common.specs.GridParts.{steps_to, StepFits, OutcomeFits}
+use Rattle.std.specs.Option.{option_map_or}
+use Rattle.common.specs.Grid.{round_z, saturated, steps_to, int_grid}
+use Rattle.common.specs.GridParts.{StepFits, GridFits, OutcomeFits}
 use Rattle.common.specs.Random.{range_of, log_range}
 use Rattle.common.specs.RandomParts.{LogFits}
 use Rattle.common.proofs.Saturate.{exact}
@@ -169,27 +167,32 @@ steps-magnitude x (pos n) w b l =
 
 -- ---- the grid of an int, at a value of at most 2 ^ 57 in size
 
-pub steps-fit : (d : IntDistribution) (v : Float) → T (int_shape d) → Within (power (pos 57)) v → StepFits d v
-steps-fit d v t w = record {
-  product = λ s. fits-64 (steps_to d v *ℤ d.step) (lt_of_le_of_lt (few s) (lit< tt));
-  sum = λ s. fits-64 (d.low +ℤ steps_to d v *ℤ d.step) (let a = few s in let b = magnitude-sum d.low (steps_to d v *ℤ d.step) in let c = r.low.magnitude in omega arith);
-}
+pub steps-fit : (d : IntDistribution) (v : Float) → T (int_shape d) → Within (power (pos 57)) v → GridFits d v
+steps-fit d v t w = if-some d.step (λ step. StepFits d.low step v) (λ step e. fit step (few step (r.steps step e)))
   where
     r : IntRules d
     r = int-rules d t
 
-    few : d.stepped ≡ true → nat_abs (steps_to d v *ℤ d.step) ≤ 2 ^ 59
-    few s =
-        steps-magnitude (sub binary64 v (of_int binary64 d.low)) d.step
-        (sub_in binary64 (power (pos 57)) (power (pos 52)) (power (pos 58)) v (of_int binary64 d.low) (unfold add le in tt) w (whole-within d.low r.low)) r.step (r.stepped (taken s))
+    few : (step : ℤ) → Bounded (2 ^ 52) step × T (le_z (pos 1) step) → nat_abs (steps_to d.low step v *ℤ step) ≤ 2 ^ 59
+    few step s =
+        steps-magnitude (sub binary64 v (of_int binary64 d.low)) step
+        (sub_in binary64 (power (pos 57)) (power (pos 52)) (power (pos 58)) v (of_int binary64 d.low) (unfold add le in tt) w (whole-within d.low r.low)) s.0 s.1
+
+    fit : (step : ℤ) → nat_abs (steps_to d.low step v *ℤ step) ≤ 2 ^ 59 → StepFits d.low step v
+    fit step f = record {
+      product = fits-64 (steps_to d.low step v *ℤ step) (lt_of_le_of_lt f (lit< tt));
+      sum = fits-64 (d.low +ℤ steps_to d.low step v *ℤ step) (let b = magnitude-sum d.low (steps_to d.low step v *ℤ step) in let c = r.low.magnitude in omega arith);
+    }
 
 -- and what the grid gives there is exact
-pub int-grid : (d : IntDistribution) (v : Float) → StepFits d v → int_grid d v ≡ cond d.stepped (d.low +ℤ steps_to d v *ℤ d.step) (round_z v)
+pub int-grid : (d : IntDistribution) (v : Float) → GridFits d v → int_grid d v ≡ option_map_or (λ step. d.low +ℤ steps_to d.low step v *ℤ step) d.step (round_z v)
 unfolding int_grid
-int-grid d v f = elim (either d.stepped) [
-  | inl s ↦ let e = is_true d.stepped s in (unfold int_grid in exact d v f e) ∙ rw e
-  | inr s ↦ let e = is_false d.stepped s in rw e
-]
+int-grid d v f = go d.step f
+  where
+    go : (o : Option ℤ) → IfSome o (λ step. StepFits d.low step v)
+        → option_map_or (λ step. saturated (d.low +ℤ saturated (steps_to d.low step v *ℤ step))) o (round_z v) ≡ option_map_or (λ step. d.low +ℤ steps_to d.low step v *ℤ step) o (round_z v)
+    go None f = refl
+    go (Some step) f = exact d.low step v f
 
 -- ---- decoding
 

@@ -10,7 +10,7 @@ use native.Mathlib.Omega.{arith}
 use mathlib.Core.Bool.{Bool, true, false, not, ◌&&◌, cond}
 use lib.Dec.{T, T_not, le→leb, lt→ltb}
 use lib.IntN.{ℤ, pos, negsuc, nat_abs, ◌+ℤ◌, ◌-ℤ◌, ◌*ℤ◌}
-use lib.Signed.{le_z, quot_z}
+use lib.Signed.{le_z, lt_z, quot_z}
 use lib.Ieee.{Float, binary64, add, sub, mul, div, lt, le, fits, is_nan, of_bits, of_int}
 use lib.Ieee.Bits.{is_true}
 use lib.Ieee.Fits.{and_i}
@@ -24,18 +24,17 @@ use Rattle.rng_util.specs.Generator.{next_of}
 use Rattle.rng_util.specs.Draws.{range_ok, unit_of, whole_of, read_by, word_draw_of, unit_draw_of, whole_draw_of}
 use Rattle.rng_util.proofs.Nonzero.{Nonzero, nonzero-test}
 use Rattle.rng_util.proofs.Whole as whole
-use Rattle.distribution.specs.declared.FloatDistribution.{FloatDistribution}
-use Rattle.distribution.specs.declared.IntDistribution.{IntDistribution}
+use Rattle.distribution.specs.Numbers.{FloatDistribution, IntDistribution}
 use Rattle.distribution.specs.declared.CategoricalDistribution.{CategoricalDistribution}
 use Rattle.distribution.specs.declared.Distribution.{Distribution}
 use Rattle.distribution.specs.declared.ParamValue.{ParamValue}
 use Rattle.distribution.specs.Shape.{power, float_shape, int_shape, shape_of, continuous_of}
 use Rattle.distribution.specs.Taken.{taken_of}
-use Rattle.distribution.proofs.Facts.{float-rules, int-rules, categorical-rules, float-taken, int-taken}
+use Rattle.distribution.proofs.Facts.{float-rules, int-rules, categorical-rules, float-taken, int-taken, by-step}
 use Rattle.encoding.specs.Bounds.{scale_of, ends_of, bounds_of}
 use Rattle.common.specs.Decode.{one, inside, float_of, int_of, decoded_of, from_internal_of}
 use Rattle.encoding.specs.Encode.{to_internal_of}
-use Rattle.common.specs.Grid.{clamp_of, float_grid, clamp_z, int_grid}
+use Rattle.common.specs.Grid.{clamp_of, float_grid, int_grid}
 use Rattle.common.specs.Random.{drawing, range_of, log_range, log_float, log_float_random, stepped_float_random, linear_float_random, float_random, log_int_random, stepped_int_random, linear_int_random, int_random, categorical_random, random_of, sample_random_of}
 use Rattle.encoding.proofs.EndLaws.{FloatFits, FloatsFit, on_log_scale, limit, EndRules, Scalable, scaled, looser, whole-scalable, end-rules, has-ends}
 use Rattle.common.proofs.Domain.{linear-range, unscaled, unit-between, log-drawn}
@@ -66,7 +65,7 @@ Ranged (Distribution.Categorical d) v = Inside (Distribution.Categorical d) v
 -- ---- a unit float scaled to the ends, and decoded
 
 -- the grid and the clamp of a float
-clamped : (d : FloatDistribution) (v : Float) → T (float_shape d) → Within (power (pos 53)) v → Between d.low d.high (clamp_of d.low d.high (float_grid d v))
+clamped : (d : FloatDistribution) (v : Float) → T (float_shape d) → Within (power (pos 53)) v → Between d.low d.high (clamp_of lt d.low d.high (float_grid d v))
 clamped d v t w = clamp-between d.low d.high (float_grid d v) (float-grid-real d v t (widen (power (pos 53)) (power (pos 57)) v (unfold le in tt) w)) (float-rules d t).order
 
 pub record Decoded (x : Float) (d : Distribution) : Type 0 where
@@ -84,14 +83,14 @@ decode-accepted (Distribution.Float d) f t lo hi e u b =
     let s = unscaled d.log_scale lo hi u (end-rules (Distribution.Float d) f t lo hi e) b in
     let c = clamped d s.value (unfold shape_of in t) s.size in
     record {
-      value = ParamValue.Float (clamp_of d.low d.high (float_grid d s.value));
+      value = ParamValue.Float (clamp_of lt d.low d.high (float_grid d s.value));
       is = from-internal (range_of lo hi u) (Distribution.Float d) lo hi e s.accepted ∙ (unfold decoded_of in ap (made (float_of d)) s.is);
-      taken = float-inside d (clamp_of d.low d.high (float_grid d s.value)) (unfold shape_of in t) c;
+      taken = float-inside d (clamp_of lt d.low d.high (float_grid d s.value)) (unfold shape_of in t) c;
       range = c;
     }
 decode-accepted (Distribution.Int d) f t lo hi e u b =
     let s = unscaled d.log_scale lo hi u (end-rules (Distribution.Int d) f t lo hi e) b in
-    let z = clamp_z d.low d.high (int_grid d s.value) in
+    let z = clamp_of lt_z d.low d.high (int_grid d s.value) in
     let c = clamp-whole d.low d.high (int_grid d s.value) (int-rules d (unfold shape_of in t)).order in
     record {
       value = ParamValue.Int z;
@@ -149,18 +148,16 @@ module _ (w : ℕ) (h : Nonzero w) where
         unit-drawn w h D (λ u. made (log_float d) (log_range (ends_of D) u)) (log_float d v.value) (rw v.is) (go v.value v.size v.least) tt
       where
         go : (v : Float) → Within (power (pos 53)) v → T (le (power (negsuc 52)) v) → T (taken_of D (log_float d v))
-        go v s g = pick d.stepped (clamp_of d.low d.high (float_grid d v)) v (float-inside d (clamp_of d.low d.high (float_grid d v)) t (clamped d v t s)) (take-float d v s (λ _. g))
-          where
-            pick : (b : Bool) (x y : Float) → T (taken_of D (ParamValue.Float x)) → T (taken_of D (ParamValue.Float y)) → T (taken_of D (ParamValue.Float (cond b x y)))
-            pick true x y p q = p
-            pick false x y p q = q
+        go v s g =
+            by-step (λ x. T (taken_of D x)) (λ _. float_of d v) d.step (ParamValue.Float v)
+            (λ _ _. float-inside d (clamp_of lt d.low d.high (float_grid d v)) t (clamped d v t s)) (λ _. take-float d v s (λ _. g))
 
-    stepped-float : T d.stepped → T (not d.log_scale) → Drawn w D (stepped_float_random w d)
+    stepped-float : (step : Float) → d.step ≡ Some step → T (not d.log_scale) → Drawn w D (stepped_float_random w d.low d.high step)
     unfolding stepped_float_random
-    stepped-float s l =
-        let n = float-steps d t s in
+    stepped-float step e l =
+        let n = float-steps d t step e in
         rw n.is
-        (whole-drawn w h D (pos 0) (pos n.number) (λ k. ParamValue.Float (add binary64 d.low (mul binary64 (of_int binary64 k) d.step))) (in-range (pos 0) (pos n.number) (omega arith) n.few (le→leb 0 n.number (omega arith)))
+        (whole-drawn w h D (pos 0) (pos n.number) (λ k. ParamValue.Float (add binary64 d.low (mul binary64 (of_int binary64 k) step))) (in-range (pos 0) (pos n.number) (omega arith) n.few (le→leb 0 n.number (omega arith)))
         (λ k b. let j = up_to n.number k b in (rw j.is (take-float d _ (n.size j.number j.most) (λ p. absurd (T_not d.log_scale l p))), tt)))
 
     linear-float : T (not d.log_scale) → Drawn w D (linear_float_random w d.low d.high)
@@ -172,7 +169,7 @@ module _ (w : ℕ) (h : Nonzero w) where
 
     float-drawn : Drawn w D (float_random w d)
     unfolding float_random
-    float-drawn = by-test (Drawn w (Distribution.Float d)) d.log_scale _ _ (λ e. log-float (holds e)) (λ e. by-test (Drawn w (Distribution.Float d)) d.stepped _ _ (λ s. stepped-float (holds s) (untaken e)) (λ s. linear-float (untaken e)))
+    float-drawn = by-test (Drawn w (Distribution.Float d)) d.log_scale _ _ (λ e. log-float (holds e)) (λ e. by-step (Drawn w (Distribution.Float d)) _ d.step _ (λ step s. stepped-float step s (untaken e)) (λ _. linear-float (untaken e)))
 
   -- ---- ints
   module _ (d : IntDistribution) (t : T (int_shape d)) where
@@ -190,12 +187,12 @@ module _ (w : ℕ) (h : Nonzero w) where
     unfolding log_int_random
     log-int l =
         let v = log-drawn Z tt tt (unfold shape_of in t) (is_true d.log_scale l) u unit in
-        let b = held (clamp_z d.low d.high (int_grid d v.value)) (clamp-whole d.low d.high (int_grid d v.value) (int-rules d t).order) in
+        let b = held (clamp_of lt_z d.low d.high (int_grid d v.value)) (clamp-whole d.low d.high (int_grid d v.value) (int-rules d t).order) in
         unit-drawn w h Z (λ u. made (int_of d) (log_range (ends_of Z) u)) (int_of d v.value) (rw v.is) b.0 b.1
 
-    stepped-int : T d.stepped → Drawn w Z (stepped_int_random w d.low d.high d.step)
+    stepped-int : (step : ℤ) → d.step ≡ Some step → Drawn w Z (stepped_int_random w d.low d.high step)
     unfolding stepped_int_random
-    stepped-int s = go d.step ((int-rules d t).stepped s)
+    stepped-int step e = go step ((int-rules d t).steps step e).1
       where
         span : ℕ
         span = (whole.difference d.low d.high ok).size
@@ -216,7 +213,7 @@ module _ (w : ℕ) (h : Nonzero w) where
 
     int-drawn : Drawn w Z (int_random w d)
     unfolding int_random
-    int-drawn = by-test (Drawn w (Distribution.Int d)) d.log_scale _ _ (λ e. log-int (holds e)) (λ e. by-test (Drawn w (Distribution.Int d)) d.stepped _ _ (λ s. stepped-int (holds s)) (λ s. linear-int))
+    int-drawn = by-test (Drawn w (Distribution.Int d)) d.log_scale _ _ (λ e. log-int (holds e)) (λ e. by-step (Drawn w (Distribution.Int d)) _ d.step _ stepped-int (λ _. linear-int))
 
   -- ---- choices
   module _ (d : CategoricalDistribution) (t : T (shape_of (Distribution.Categorical d))) where

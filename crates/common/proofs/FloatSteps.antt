@@ -1,4 +1,5 @@
 -- A float that is drawn on the grid from low is at most 2 ^ 53 in size. The number of steps is at most 64/63 of (high - low)/step, as a quotient is rounded by less than that; so the steps add at most 33/32 of 2 ^ 52 - a, where low is from a to b, and three such parts cover every low.
+use Rattle.std.specs.Prelude.{Some}
 use mathlib.Core.Path.{◌≡◌, refl, sym, ap, ◌∙◌}
 use mathlib.Core.Logic.{◌⊎◌, inl, inr}
 use Prim.Native.Nat.{ℕ, zero, suc, ◌+◌, ◌-◌, ◌*◌, ◌/◌, ◌^◌, ◌≤◌, ◌<◌, zero-le}
@@ -27,7 +28,7 @@ use Rattle.arith.proofs.Sign.{bit-of, mul-sign, div-sign}
 use Rattle.arith.proofs.Zero.{zero_f, zero-lt}
 use Rattle.arith.proofs.HalfUnit.{half-unit}
 use Rattle.arith.proofs.Held.{held}
-use Rattle.distribution.specs.declared.FloatDistribution.{FloatDistribution}
+use Rattle.distribution.specs.Numbers.{FloatDistribution}
 use Rattle.distribution.specs.Shape.{power, float_shape}
 use Rattle.distribution.proofs.Facts.{FloatStepRules, float-rules}
 use Rattle.common.proofs.Domain.{positive-within}
@@ -307,8 +308,8 @@ pub record FloatSteps (low high step : Float) : Type 0 where
   pub few : number ≤ 2 ^ 53
   pub size : (j : ℕ) → j ≤ number → Within (power (pos 53)) (add binary64 low (mul binary64 (of_int binary64 (pos j)) step))
 
-pub float-steps : (d : FloatDistribution) → T (float_shape d) → T d.stepped → FloatSteps d.low d.high d.step
-float-steps d t s =
+pub float-steps : (d : FloatDistribution) → T (float_shape d) → (step : Float) → d.step ≡ Some step → FloatSteps d.low d.high step
+float-steps d t step e =
     let r = float-rules d t in
-    let n = steps d.low d.high d.step r.low r.high r.order (r.stepped s) in
-    record { number = n.number; is = n.is; few = n.few; size = sum-within d.low d.high d.step r.low r.high r.order (r.stepped s) }
+    let n = steps d.low d.high step r.low r.high r.order (r.steps step e) in
+    record { number = n.number; is = n.is; few = n.few; size = sum-within d.low d.high step r.low r.high r.order (r.steps step e) }

@@ -12,10 +12,10 @@ use Rattle.arith.specs.Outcome.{made}
 use Rattle.rng_util.specs.declared.Draw.{Draw}
 use Rattle.rng_util.specs.Draws.{unit_of, whole_of, range_ok, read_by, word_draw_of, unit_draw_of, whole_draw_of, drawn_by, word_after}
 use Rattle.rng_util.specs.Generator.{moved_of}
-use Rattle.distribution.specs.declared.FloatDistribution.{FloatDistribution}
-use Rattle.distribution.specs.declared.IntDistribution.{IntDistribution}
+use Rattle.distribution.specs.Numbers.{FloatDistribution, IntDistribution}
 use Rattle.distribution.specs.declared.Distribution.{Distribution}
 use Rattle.distribution.specs.Shape.{shape_of}
+use Rattle.distribution.proofs.Facts.{by-step}
 use Rattle.common.specs.Random.{drawing, log_float_random, stepped_float_random, linear_float_random, float_random, log_int_random, stepped_int_random, linear_int_random, int_random, categorical_random, random_of, sample_random_of}
 
 -- the words drawn are the generator's moves, at most one
@@ -54,11 +54,11 @@ whole w a b = by-test (Moved w) (range_ok a b) _ _ (λ _. read (whole_of a b) w 
 
 float : (w : ℕ) (d : FloatDistribution) → Moved w (float_random w d)
 unfolding float_random log_float_random stepped_float_random linear_float_random
-float w d = by-test (Moved w) d.log_scale _ _ (λ _. drawn _ w _ (unit w)) (λ _. by-test (Moved w) d.stepped _ _ (λ _. read _ w _ (whole w _ _)) (λ _. read _ w _ (unit w)))
+float w d = by-test (Moved w) d.log_scale _ _ (λ _. drawn _ w _ (unit w)) (λ _. by-step (Moved w) _ d.step _ (λ _ _. read _ w _ (whole w _ _)) (λ _. read _ w _ (unit w)))
 
 int : (w : ℕ) (d : IntDistribution) → Moved w (int_random w d)
 unfolding int_random log_int_random stepped_int_random linear_int_random
-int w d = by-test (Moved w) d.log_scale _ _ (λ _. drawn _ w _ (unit w)) (λ _. by-test (Moved w) d.stepped _ _ (λ _. read _ w _ (whole w _ _)) (λ _. read _ w _ (whole w _ _)))
+int w d = by-test (Moved w) d.log_scale _ _ (λ _. drawn _ w _ (unit w)) (λ _. by-step (Moved w) _ d.step _ (λ _ _. read _ w _ (whole w _ _)) (λ _. read _ w _ (whole w _ _)))
 
 random : (w : ℕ) (d : Distribution) → Moved w (random_of w d)
 unfolding random_of categorical_random

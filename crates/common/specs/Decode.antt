@@ -3,15 +3,15 @@ use Rattle.refusal.specs.declared.Refusal.{Refusal}
 use Rattle.refusal.specs.declared.Refusal.TheVariants.{OutOfDomain}
 use Rattle.std.specs.Prelude.{Bool, false, ◌&&◌, cond, pos, Float, Result, Ok, Err, Some, None}
 use Rattle.std.specs.Float.{binary64}
-use Rattle.std.specs.Float.Ieee.{add, sub, le, of_int}
+use Rattle.std.specs.Float.Ieee.{add, sub, lt, le, of_int}
+use Rattle.std.specs.Int.Signed.{lt_z}
 use Rattle.exponential.specs.Exp.{exp_of}
 use Rattle.arith.specs.Outcome.{pick, made}
-use Rattle.distribution.specs.declared.FloatDistribution.{FloatDistribution}
-use Rattle.distribution.specs.declared.IntDistribution.{IntDistribution}
+use Rattle.distribution.specs.Numbers.{FloatDistribution, IntDistribution}
 use Rattle.distribution.specs.declared.Distribution.{Distribution}
 use Rattle.distribution.specs.declared.ParamValue.{ParamValue}
 use Rattle.encoding.specs.Bounds.{InternalBounds, bounds_of}
-use Rattle.common.specs.Grid.{clamp_of, float_grid, clamp_z, int_grid}
+use Rattle.common.specs.Grid.{clamp_of, float_grid, int_grid}
 
 -- a value, or on log scale its exponential
 abbrev pub unscale_of : Bool → Float → Result Float Refusal
@@ -19,10 +19,10 @@ unscale_of log x = pick log (exp_of x) (Ok x)
 
 -- what is on the grid and between the ends
 abbrev pub float_of : FloatDistribution → Float → ParamValue
-float_of d v = ParamValue.Float (clamp_of d.low d.high (float_grid d v))
+float_of d v = ParamValue.Float (clamp_of lt d.low d.high (float_grid d v))
 
 abbrev pub int_of : IntDistribution → Float → ParamValue
-int_of d v = ParamValue.Int (clamp_z d.low d.high (int_grid d v))
+int_of d v = ParamValue.Int (clamp_of lt_z d.low d.high (int_grid d v))
 
 -- a choice has no decoding: the Rust's `unreachable!` is 11
 unfoldable pub decoded_of : Float → Distribution → Result ParamValue Refusal

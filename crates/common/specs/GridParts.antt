@@ -1,22 +1,19 @@
 -- What the grid of an int asks: nothing saturates. Definitions only.
 use Rattle.refusal.specs.declared.Refusal.{Refusal}
-use Rattle.std.specs.Prelude.{◌≡◌, true, ℤ, ◌+ℤ◌, ◌*ℤ◌, Float, Result, Ok, Err}
-use Rattle.std.specs.Float.{binary64}
-use Rattle.std.specs.Float.Ieee.{sub, div, of_int}
+use Rattle.std.specs.Prelude.{ℤ, ◌+ℤ◌, ◌*ℤ◌, Float, Result, Ok, Err, IfSome}
 use Rattle.std.specs.Int.{w64}
 use Rattle.std.proofs.Common.{SFits}
-use Rattle.distribution.specs.declared.IntDistribution.{IntDistribution}
-use Rattle.common.specs.Grid.{round_z}
+use Rattle.distribution.specs.Numbers.{IntDistribution}
+use Rattle.common.specs.Grid.{steps_to}
 
--- the number of steps from low to v
-abbrev pub steps_to : IntDistribution → Float → ℤ
-steps_to d v = round_z (div binary64 (sub binary64 v (of_int binary64 d.low)) (of_int binary64 d.step))
+pub record StepFits (low step : ℤ) (v : Float) : Type 0 where
+  pub product : SFits w64 (steps_to low step v *ℤ step)
+  pub sum : SFits w64 (low +ℤ steps_to low step v *ℤ step)
 
-pub record StepFits (d : IntDistribution) (v : Float) : Type 0 where
-  pub product : d.stepped ≡ true → SFits w64 (steps_to d v *ℤ d.step)
-  pub sum : d.stepped ≡ true → SFits w64 (d.low +ℤ steps_to d v *ℤ d.step)
+abbrev pub GridFits : IntDistribution → Float → Type 0
+GridFits d v = IfSome d.step (λ step. StepFits d.low step v)
 
 -- the same of an answer
 abbrev pub OutcomeFits : IntDistribution → Result Float Refusal → Type 0
-OutcomeFits d (Ok v) = StepFits d v
+OutcomeFits d (Ok v) = GridFits d v
 OutcomeFits d (Err r) = Unit

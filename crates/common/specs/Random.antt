@@ -2,6 +2,7 @@
 use Rattle.refusal.specs.declared.Refusal.TheVariants.{OutOfDomain}
 use Rattle.refusal.specs.declared.Refusal.{Refusal}
 use Rattle.std.specs.Prelude.{ℕ, ◌-◌, cond, ℤ, pos, ◌+ℤ◌, ◌-ℤ◌, ◌*ℤ◌, nat_abs, Float, Result, Ok, Err, Some, None}
+use Rattle.std.specs.Option.{option_map_or}
 use Rattle.std.specs.Int.Signed.{quot_z}
 use Rattle.std.specs.Float.{binary64}
 use Rattle.std.specs.Float.Ieee.{add, sub, mul, div, of_int, to_signed}
@@ -10,14 +11,12 @@ use Rattle.arith.specs.Rounding.{floor_of}
 use Rattle.arith.specs.Outcome.{made, and_then}
 use Rattle.rng_util.specs.declared.Draw.{Draw}
 use Rattle.rng_util.specs.Draws.{read_by, unit_draw_of, whole_draw_of}
-use Rattle.distribution.specs.declared.FloatDistribution.{FloatDistribution}
-use Rattle.distribution.specs.declared.IntDistribution.{IntDistribution}
+use Rattle.distribution.specs.Numbers.{FloatDistribution, IntDistribution}
 use Rattle.distribution.specs.declared.Distribution.{Distribution}
 use Rattle.distribution.specs.declared.ParamValue.{ParamValue}
 use Rattle.distribution.specs.Shape.{shape_of}
 use Rattle.encoding.specs.Bounds.{InternalBounds, ends_of}
-use Rattle.common.specs.Decode.{int_of}
-use Rattle.common.specs.Grid.{clamp_of, float_grid}
+use Rattle.common.specs.Decode.{float_of, int_of}
 
 -- what f answers of the value drawn; a refusal draws nothing
 abbrev pub drawing : {A B : Type 0} → (A → Result B Refusal) → Result (Draw A) Refusal → Result (Draw B) Refusal
@@ -35,17 +34,17 @@ log_range (Err r) u = Err r
 
 -- a stepped float on log scale is clamped, an unstepped one is not
 abbrev pub log_float : FloatDistribution → Float → ParamValue
-log_float d v = ParamValue.Float (cond d.stepped (clamp_of d.low d.high (float_grid d v)) v)
+log_float d v = option_map_or (λ step. float_of d v) d.step (ParamValue.Float v)
 
 unfoldable pub log_float_random : ℕ → FloatDistribution → Result (Draw ParamValue) Refusal
 log_float_random w d =
     drawing (λ u. made (log_float d) (log_range (ends_of (Distribution.Float d)) u)) (unit_draw_of w)
 
 -- "let n_steps = ((d.high - d.low) / step).floor() as i64; let k = rng.i64(0..=n_steps); d.low + (k as f64) * step"
-unfoldable pub stepped_float_random : ℕ → FloatDistribution → Result (Draw ParamValue) Refusal
-stepped_float_random w d =
-    read_by (λ k. ParamValue.Float (add binary64 d.low (mul binary64 (of_int binary64 k) d.step)))
-    (whole_draw_of w (pos 0) (to_signed 63 (floor_of (div binary64 (sub binary64 d.high d.low) d.step))))
+unfoldable pub stepped_float_random : ℕ → Float → Float → Float → Result (Draw ParamValue) Refusal
+stepped_float_random w low high step =
+    read_by (λ k. ParamValue.Float (add binary64 low (mul binary64 (of_int binary64 k) step)))
+    (whole_draw_of w (pos 0) (to_signed 63 (floor_of (div binary64 (sub binary64 high low) step))))
 
 unfoldable pub linear_float_random : ℕ → Float → Float → Result (Draw ParamValue) Refusal
 linear_float_random w low high = read_by (λ u. ParamValue.Float (range_of low high u)) (unit_draw_of w)
@@ -54,7 +53,7 @@ unfoldable pub float_random : ℕ → FloatDistribution → Result (Draw ParamVa
 unfolding log_float_random stepped_float_random linear_float_random
 float_random w d =
     cond d.log_scale (log_float_random w d)
-    (cond d.stepped (stepped_float_random w d) (linear_float_random w d.low d.high))
+    (option_map_or (stepped_float_random w d.low d.high) d.step (linear_float_random w d.low d.high))
 
 unfoldable pub log_int_random : ℕ → IntDistribution → Result (Draw ParamValue) Refusal
 log_int_random w d = drawing (λ u. made (int_of d) (log_range (ends_of (Distribution.Int d)) u)) (unit_draw_of w)
@@ -71,7 +70,7 @@ unfoldable pub int_random : ℕ → IntDistribution → Result (Draw ParamValue)
 unfolding log_int_random stepped_int_random linear_int_random
 int_random w d =
     cond d.log_scale (log_int_random w d)
-    (cond d.stepped (stepped_int_random w d.low d.high d.step) (linear_int_random w d.low d.high))
+    (option_map_or (stepped_int_random w d.low d.high) d.step (linear_int_random w d.low d.high))
 
 -- a choice below the count
 unfoldable pub categorical_random : ℕ → ℕ → Result (Draw ParamValue) Refusal

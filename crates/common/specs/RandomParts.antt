@@ -3,7 +3,7 @@ use Rattle.std.specs.Prelude.{◌≡◌, ℕ, ◌^◌, ◌≤◌, T, ℤ, pos, n
 use Rattle.std.specs.Int.Signed.{le_z}
 use Rattle.rng_util.specs.declared.Draw.{Draw}
 use Rattle.rng_util.specs.Draws.{unit_draw_of}
-use Rattle.distribution.specs.declared.IntDistribution.{IntDistribution}
+use Rattle.distribution.specs.Numbers.{IntDistribution}
 use Rattle.distribution.specs.declared.Distribution.{Distribution}
 use Rattle.encoding.specs.Bounds.{ends_of}
 use Rattle.common.specs.GridParts.{OutcomeFits}

@@ -2,9 +2,9 @@
 ghost use Rattle.std.specs.Prelude.{◌≡◌, Ok};
 ghost use Rattle.common.specs.Decode.{unscale_of, inside, float_of, int_of, decoded_of, from_internal_of};
 ghost use Rattle.common.specs.DecodeParts.{Decodable};
-ghost use Rattle.common.specs.GridParts.{StepFits};
+ghost use Rattle.common.specs.GridParts.{GridFits};
 
-use crate::grid::{clamp, float_grid, int_clamp, int_grid};
+use crate::grid::{clamp, float_grid, int_grid};
 use distribution::{Distribution, FloatDistribution, IntDistribution, ParamValue};
 use encoding::{InternalBounds, internal_bounds};
 use refusal::Refusal;
@@ -40,17 +40,18 @@ fn is_inside(b: InternalBounds, x: f64) -> bool
     }
 }
 
-fn float_decoded(d: FloatDistribution, v: f64) -> ParamValue
+// Kept: one for each kind, since each moves to its own grid.
+pub(crate) fn float_decoded(d: FloatDistribution, v: f64) -> ParamValue
     ensures { result ≡ float_of d v }
 {
     ParamValue::Float(clamp(d.low, d.high, float_grid(d, v)))
 }
 
 pub(crate) fn int_decoded(d: IntDistribution, v: f64) -> ParamValue
-    requires { StepFits d v }
+    requires { GridFits d v }
     ensures { result ≡ int_of d v }
 {
-    ParamValue::Int(int_clamp(d.low, d.high, int_grid(d, v)))
+    ParamValue::Int(clamp(d.low, d.high, int_grid(d, v)))
 }
 
 // The decoding of an x that is inside.

@@ -1,60 +1,45 @@
 // A value moved to the grid of a stepped distribution, and held to its ends.
 ghost use Rattle.std.specs.Prelude.{◌≡◌};
-ghost use Rattle.common.specs.Grid.{raised_to, lowered_to, clamp_of, float_grid, clamp_z, int_grid};
-ghost use Rattle.common.specs.GridParts.{StepFits};
+ghost use Rattle.std.specs.Ordering.{partial_lt};
+ghost use Rattle.common.specs.Grid.{clamp_of, float_grid, int_grid};
+ghost use Rattle.common.specs.GridParts.{GridFits};
 
 use distribution::{FloatDistribution, IntDistribution};
 
-// Kept: by two tests, since f64::max answers the limit for a NaN, and f64::clamp asks that low is at most high.
-fn raised_to(low: f64, v: f64) -> f64
-    ensures { result ≡ raised_to low v }
+// Rust's clamp, also where high is below low.
+// Kept: by two tests, since f64::max answers the limit for a NaN, and clamp asks that low is at most high.
+pub(crate) fn clamp<T: PartialOrd + Copy>(low: T, high: T, v: T) -> T
+    ensures { result ≡ clamp_of (partial_lt T.partial_cmp) low high v }
 {
-    if v < low { low } else { v }
-}
-
-fn lowered_to(high: f64, v: f64) -> f64
-    ensures { result ≡ lowered_to high v }
-{
-    if v > high { high } else { v }
-}
-
-// Rust's f64::clamp.
-pub(crate) fn clamp(low: f64, high: f64, v: f64) -> f64
-    ensures { result ≡ clamp_of low high v }
-{
-    lowered_to(high, raised_to(low, v))
+    let raised = if v < low { low } else { v };
+    if high < raised { high } else { raised }
 }
 
 // The float of the grid nearest to v, counted from low; v where there is no step.
+#[tactic(auto, unfolding(crate::specs::Grid::float_grid))]
 pub(crate) fn float_grid(d: FloatDistribution, v: f64) -> f64
     ensures { result ≡ float_grid d v }
 {
-    if d.stepped {
-        let k = arith::round((v - d.low) / d.step);
-        d.low + k * d.step
-    } else {
-        v
+    match d.step {
+        Some(step) => d.low + arith::round((v - d.low) / step) * step,
+        None => v,
     }
 }
 
-// Rust's i64::clamp, also where high is below low.
-pub(crate) fn int_clamp(low: i64, high: i64, z: i64) -> i64
-    ensures { result ≡ clamp_z low high z }
-{
-    z.max(low).min(high)
-}
-
 // The whole number of the grid nearest to v, counted from low; the nearest whole number where there is no step.
+// Kept: beside float_grid, since its steps are rounded to an i64 and counted there, and a float's are a float.
+#[tactic(auto, unfolding(crate::specs::Grid::int_grid))]
 pub(crate) fn int_grid(d: IntDistribution, v: f64) -> i64
-    requires { StepFits d v }
+    requires { GridFits d v }
     ensures { result ≡ int_grid d v }
 {
-    if d.stepped {
-        let k = arith::int_of_float(arith::round(
-            (v - arith::float_of_int(d.low)) / arith::float_of_int(d.step),
-        ));
-        d.low + k * d.step
-    } else {
-        arith::int_of_float(arith::round(v))
+    match d.step {
+        Some(step) => {
+            let k = arith::int_of_float(arith::round(
+                (v - arith::float_of_int(d.low)) / arith::float_of_int(step),
+            ));
+            d.low + k * step
+        }
+        None => arith::int_of_float(arith::round(v)),
     }
 }

@@ -4,8 +4,7 @@ ghost use Rattle.distribution.specs.Shape.{int_shape, shape_of};
 ghost use Rattle.common.specs.Random.{range_of, log_range, log_float, log_float_random, stepped_float_random, linear_float_random, float_random, log_int_random, stepped_int_random, linear_int_random, int_random, categorical_random, random_of, sample_random_of};
 ghost use Rattle.common.specs.RandomParts.{LogFits, Stepped};
 
-use crate::decode::int_decoded;
-use crate::grid::{clamp, float_grid};
+use crate::decode::{float_decoded, int_decoded};
 use distribution::{Distribution, FloatDistribution, IntDistribution, ParamValue};
 use encoding::{InternalBounds, ends};
 use refusal::Refusal;
@@ -33,10 +32,9 @@ fn log_range(b: InternalBounds, u: f64) -> Result<f64, Refusal>
 fn log_float(d: FloatDistribution, v: f64) -> ParamValue
     ensures { result ≡ log_float d v }
 {
-    if d.stepped {
-        ParamValue::Float(clamp(d.low, d.high, float_grid(d, v)))
-    } else {
-        ParamValue::Float(v)
+    match d.step {
+        Some(_) => float_decoded(d, v),
+        None => ParamValue::Float(v),
     }
 }
 
@@ -50,12 +48,12 @@ fn log_float_random(w: u64, d: FloatDistribution) -> Result<Draw<ParamValue>, Re
 }
 
 #[tactic(auto, unfolding(crate::specs::Random::stepped_float_random))]
-fn stepped_float_random(w: u64, d: FloatDistribution) -> Result<Draw<ParamValue>, Refusal>
-    ensures { result ≡ stepped_float_random w d }
+fn stepped_float_random(w: u64, low: f64, high: f64, step: f64) -> Result<Draw<ParamValue>, Refusal>
+    ensures { result ≡ stepped_float_random w low high step }
 {
-    let n = arith::int_of_float(arith::floor((d.high - d.low) / d.step));
+    let n = arith::int_of_float(arith::floor((high - low) / step));
     let r = rng_util::whole_number(w, 0, n)?;
-    let v = d.low + arith::float_of_int(r.value) * d.step;
+    let v = low + arith::float_of_int(r.value) * step;
     Ok(r.with(ParamValue::Float(v)))
 }
 
@@ -74,10 +72,10 @@ fn float_random(w: u64, d: FloatDistribution) -> Result<Draw<ParamValue>, Refusa
     if d.log_scale {
         return log_float_random(w, d);
     }
-    if d.stepped {
-        return stepped_float_random(w, d);
+    match d.step {
+        Some(step) => stepped_float_random(w, d.low, d.high, step),
+        None => linear_float_random(w, d.low, d.high),
     }
-    linear_float_random(w, d.low, d.high)
 }
 
 #[tactic(auto, unfolding(crate::specs::Random::log_int_random))]
@@ -116,10 +114,10 @@ fn int_random(w: u64, d: IntDistribution) -> Result<Draw<ParamValue>, Refusal>
     if d.log_scale {
         return log_int_random(w, d);
     }
-    if d.stepped {
-        return stepped_int_random(w, d.low, d.high, d.step);
+    match d.step {
+        Some(step) => stepped_int_random(w, d.low, d.high, step),
+        None => linear_int_random(w, d.low, d.high),
     }
-    linear_int_random(w, d.low, d.high)
 }
 
 #[tactic(auto, unfolding(crate::specs::Random::categorical_random))]

@@ -10,7 +10,7 @@ use Rattle.dimensions.specs.declared.DimensionInfo.{DimensionInfo}
 
 -- what lies past the end of a list of dimensions; an array of 20 has none of it
 abbrev pub no_dimension : DimensionInfo
-no_dimension = record { distribution = Distribution.Float (record { low = nan; high = nan; log_scale = false; stepped = false; step = nan }); lo = nan; hi = nan }
+no_dimension = record { distribution = Distribution.Float (record { low = nan; high = nan; log_scale = false; step = None }); lo = nan; hi = nan }
 
 abbrev pub dimension_at : List DimensionInfo → ℕ → DimensionInfo
 dimension_at dims j = get_or dims j no_dimension

@@ -1,15 +1,18 @@
--- A distribution that equals a well-formed one is well-formed, if its step word is zero where it is unstepped: equality does not look at that word.
--- The two quotients (high - low) / step are one float, or zeros. Assumes nothing.
+-- A distribution that equals a well-formed one is well-formed. The two quotients (high - low) / step are one float, or zeros. Assumes nothing.
+use Rattle.std.specs.Prelude.{Option, Some, None}
+use Rattle.std.specs.Option.{option_eq}
+use Rattle.std.specs.Ordering.{int_eq}
+use Rattle.std.proofs.lemmas.Bool.Decides.{Decides-int_eq}
 use mathlib.Core.Path.{◌≡◌, refl, sym, ap, ap₂, subst, ◌∙◌}
 use mathlib.Core.Logic.{inl, inr}
 use Prim.Native.Nat.{ℕ, zero, suc, ◌*◌, ◌<◌}
 use native.Mathlib.Nat.{mul_comm, mul_assoc, mul_left_comm, mul-pos, zero-mul, zero-lt-suc, lt_irrefl}
 use native.Mathlib.Omega.{arith}
-use mathlib.Core.Bool.{Bool, true, false, not, ◌||◌, beq, cond}
+use mathlib.Core.Bool.{Bool, true, false, ◌||◌, beq, cond}
 use lib.Dec.{T, not_T, ltb→lt, eqb, eqb→eq}
 use lib.IntN.{ℤ, pos, negsuc}
-use lib.Ieee.{Float, nan, inf, fin, binary64, up, down, unlike, round, neg, add, sub, div, le, eq, to_bits}
-use lib.Ieee.Bits.{cond_no}
+use lib.Ieee.{Float, nan, inf, fin, binary64, up, down, unlike, round, neg, add, sub, div, le, eq}
+use lib.Ieee.Bits.{cond_no, is_true}
 use lib.Ieee.Fits.{and_l, and_r, up_pos, down_pos}
 use lib.Ieee.Scale.{finite, round_same}
 use lib.Ieee.Positive.{positive, above, above_of_le}
@@ -17,17 +20,15 @@ use Rattle.arith.specs.Bounds.{Within}
 use Rattle.arith.specs.Rounding.{floor_of}
 use Rattle.arith.proofs.Order as order
 use Rattle.arith.proofs.Mono.{zero-round, sub-left, add_right, neg-finite}
-use Rattle.arith.proofs.Tests.{either, or_split}
+use Rattle.arith.proofs.Tests.{or_split}
 use Rattle.arith.proofs.Within as sizes
-use Rattle.distribution.specs.declared.FloatDistribution.{FloatDistribution}
-use Rattle.distribution.specs.declared.IntDistribution.{IntDistribution}
 use Rattle.distribution.specs.declared.CategoricalDistribution.{CategoricalDistribution}
 use Rattle.distribution.specs.declared.Distribution.{Distribution}
 use Rattle.distribution.specs.Shape.{power, float_shape, int_shape, categorical_shape, shape_of}
-use Rattle.distribution.specs.Equal.{eq_z, equal_of}
-use Rattle.distribution.proofs.Facts.{FloatStepRules, FloatRules, float-rules, rules-float, IntRules, int-rules}
-use Rattle.distribution.proofs.Equals.{eq-sym, eq-le, le-eq, beq-is, Same, float_fields, int_fields, float_same, int_same, Equal, floats, ints, choices, equal-cases}
-use Rattle.distribution.proofs.Whole.{eq_z-is}
+use Rattle.distribution.specs.Equal.{number_equal, equal_of}
+use Rattle.distribution.specs.Numbers.{FloatDistribution, IntDistribution}
+use Rattle.distribution.proofs.Facts.{parts, FloatStepRules, FloatRules, float-rules, rules-float}
+use Rattle.distribution.proofs.Equals.{eq-sym, eq-le, le-eq, beq-is}
 
 -- ---- the difference
 
@@ -104,12 +105,6 @@ count-eq (fin p m e) (fin p' m' e') (fin false n d) (fin false n' d') F F' P P' 
 
 -- ---- the shape
 
--- "Unstepped: the step word is zero"
-abbrev pub NoStep : Distribution → Type 0
-NoStep (Distribution.Float d) = T (not d.stepped) → to_bits binary64 d.step ≡ 0
-NoStep (Distribution.Int d) = T (not d.stepped) → d.step ≡ pos 0
-NoStep (Distribution.Categorical d) = Unit
-
 size-eq : (b x y : Float) → T (eq x y) → Within b x → Within b y
 size-eq b x y h w =
     sizes.within b y (order.le_trans y x b (eq-le y x (eq-sym x y h)) (sizes.upper b x w)) (order.le_trans (neg b) x y (sizes.lower b x w) (eq-le x y h))
@@ -138,58 +133,76 @@ sub-finite : (x y : Float) → Within (power (pos 52)) x → Within (power (pos 
 unfolding add le
 sub-finite x y v w = sizes.within-finite (power (pos 53)) (sub binary64 x y) tt (sizes.sub_in binary64 (power (pos 52)) (power (pos 52)) (power (pos 53)) x y tt v w)
 
-module _ (a b : FloatDistribution) (s : Same Float eq (float_fields a) (float_fields b)) (r : FloatRules a) where
+-- what equals a step is one
+equal-step : {A : Type 0} (e : A → A → Bool) (p : Option A) (y : A) → T (option_eq e p (Some y)) → (x : A) × (p ≡ Some x) × T (e x y)
+equal-step e None y t = absurd t
+equal-step e (Some x) y t = (x, refl, t)
+
+module _ (a b : FloatDistribution) (s : T (number_equal eq a b)) (r : FloatRules a) where
+  low-eq : T (eq a.low b.low)
+  low-eq = search parts
+
+  high-eq : T (eq a.high b.high)
+  high-eq = search parts
+
   low : Within (power (pos 52)) b.low
-  low = size-eq (power (pos 52)) a.low b.low s.low r.low
+  low = size-eq (power (pos 52)) a.low b.low low-eq r.low
 
   high : Within (power (pos 52)) b.high
-  high = size-eq (power (pos 52)) a.high b.high s.high r.high
+  high = size-eq (power (pos 52)) a.high b.high high-eq r.high
 
-  stepped : T b.stepped → FloatStepRules b.low b.high b.step
-  stepped h =
-      let t = subst T (sym s.stepped) h in
-      let q = r.stepped t in
-      let e = s.step t in
-      let l = order.le_trans (power (negsuc 51)) a.step b.step q.least (eq-le a.step b.step e) in
-      let f = finite-eq a.step b.step e q.finite in
+  step-rules : (x y : Float) → T (eq x y) → FloatStepRules a.low a.high x → FloatStepRules b.low b.high y
+  step-rules x y e q =
+      let l = order.le_trans (power (negsuc 51)) x y q.least (eq-le x y e) in
+      let f = finite-eq x y e q.finite in
       record {
         least = l;
         finite = f;
         count =
-            count-eq (sub binary64 a.high a.low) (sub binary64 b.high b.low) a.step b.step (sub-finite a.high a.low r.high r.low) (sub-finite b.high b.low high low)
-            (positive-step a.step q.least q.finite) (positive-step b.step l f)
-            (sub-eq a.high b.high a.low b.low (size-finite a.high r.high) (size-finite b.high high) (size-finite a.low r.low) (size-finite b.low low) s.high s.low)
+            count-eq (sub binary64 a.high a.low) (sub binary64 b.high b.low) x y (sub-finite a.high a.low r.high r.low) (sub-finite b.high b.low high low)
+            (positive-step x q.least q.finite) (positive-step y l f)
+            (sub-eq a.high b.high a.low b.low (size-finite a.high r.high) (size-finite b.high high) (size-finite a.low r.low) (size-finite b.low low) high-eq low-eq)
             e q.count;
       }
 
-  float-equal-shape : (T (not b.stepped) → to_bits binary64 b.step ≡ 0) → T (float_shape b)
-  float-equal-shape n =
+  float-equal-shape : T (float_shape b)
+  float-equal-shape =
       rules-float b (record {
         low = low;
         high = high;
-        order = order.le_trans b.low a.low b.high (eq-le b.low a.low (eq-sym a.low b.low s.low))
-            (order.le_trans a.low a.high b.high r.order (eq-le a.high b.high s.high));
-        log = λ h. order.le_trans (power (negsuc 51)) a.low b.low (r.log (subst T (sym s.log) h)) (eq-le a.low b.low s.low);
-        stepped = stepped;
-        unstepped = n;
+        order = order.le_trans b.low a.low b.high (eq-le b.low a.low (eq-sym a.low b.low low-eq))
+            (order.le_trans a.low a.high b.high r.order (eq-le a.high b.high high-eq));
+        log = λ h. order.le_trans (power (negsuc 51)) a.low b.low (r.log (subst T (sym (beq-is a.log_scale b.log_scale (search parts))) h)) (eq-le a.low b.low low-eq);
+        steps = λ y g. let q = equal-step eq a.step y (subst (λ (o : Option Float). T (option_eq eq a.step o)) g (search parts)) in step-rules q.0 y q.2 (r.steps q.0 q.1);
       })
 
--- an int's fields are the same, the step of an unstepped one too
-int-equal-shape : (a b : IntDistribution) → Same ℤ eq_z (int_fields a) (int_fields b) → IntRules a → (T (not b.stepped) → b.step ≡ pos 0) → a ≡ b
-int-equal-shape a b s r n =
-    let p = eq_z-is a.low b.low s.low in
-    let q = eq_z-is a.high b.high s.high in
-    let t : a.step ≡ b.step = elim (either a.stepped) [
-      | inl h ↦ eq_z-is a.step b.step (s.step h)
-      | inr h ↦ r.unstepped h ∙ sym (n (subst (λ (x : Bool). T (not x)) s.stepped h))
-    ] in
-    λ i. record { low = p i; high = q i; log_scale = s.log i; stepped = s.stepped i; step = t i }
+-- an int's fields are the same
+int-is : (x y : ℤ) → T (int_eq x y) → x ≡ y
+int-is x y t = (Decides-int_eq x y).0 (is_true (int_eq x y) t)
 
-shape-cases : {a b : Distribution} → Equal a b → NoStep b → T (shape_of a) → T (shape_of b)
-unfolding shape_of
-shape-cases (floats {a = a} {b = b} e) n t = float-equal-shape a b (float_same a b e) (float-rules a t) n
-shape-cases (ints {a = a} {b = b} e) n t = subst (λ (x : IntDistribution). T (int_shape x)) (int-equal-shape a b (int_same a b e) (int-rules a t) n) t
-shape-cases (choices {a = a} {b = b} p) n t = subst (λ (x : CategoricalDistribution). T (categorical_shape x)) (λ i. record { n_choices = p i }) t
+step-is : (p q : Option ℤ) → T (option_eq int_eq p q) → p ≡ q
+step-is None None t = refl
+step-is None (Some y) t = absurd t
+step-is (Some x) None t = absurd t
+step-is (Some x) (Some y) t = ap Some (int-is x y t)
 
-pub equal-shape : (a b : Distribution) → T (equal_of a b) → NoStep b → T (shape_of a) → T (shape_of b)
-equal-shape a b e n t = shape-cases (equal-cases a b e) n t
+int-equal : (a b : IntDistribution) → T (number_equal int_eq a b) → a ≡ b
+int-equal a b s =
+    let low = int-is a.low b.low (search parts) in
+    let high = int-is a.high b.high (search parts) in
+    let log = beq-is a.log_scale b.log_scale (search parts) in
+    let step = step-is a.step b.step (search parts) in
+    λ i. record { low = low i; high = high i; log_scale = log i; step = step i }
+
+pub equal-shape : (a b : Distribution) → T (equal_of a b) → T (shape_of a) → T (shape_of b)
+unfolding equal_of shape_of
+equal-shape (Distribution.Float a) (Distribution.Float b) e t = float-equal-shape a b e (float-rules a t)
+equal-shape (Distribution.Float a) (Distribution.Int b) e t = absurd e
+equal-shape (Distribution.Float a) (Distribution.Categorical b) e t = absurd e
+equal-shape (Distribution.Int a) (Distribution.Float b) e t = absurd e
+equal-shape (Distribution.Int a) (Distribution.Int b) e t = subst (λ (x : IntDistribution). T (int_shape x)) (int-equal a b e) t
+equal-shape (Distribution.Int a) (Distribution.Categorical b) e t = absurd e
+equal-shape (Distribution.Categorical a) (Distribution.Float b) e t = absurd e
+equal-shape (Distribution.Categorical a) (Distribution.Int b) e t = absurd e
+equal-shape (Distribution.Categorical a) (Distribution.Categorical b) e t =
+    subst (λ (x : CategoricalDistribution). T (categorical_shape x)) (λ i. record { n_choices = eqb→eq a.n_choices b.n_choices e i }) t

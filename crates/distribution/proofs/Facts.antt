@@ -1,22 +1,23 @@
 -- What a well-formed distribution and a taken value keep: the parts of the tests that they pass, as facts. Assumes nothing.
-use mathlib.Core.Path.{◌≡◌, sym, subst}
+use Rattle.std.specs.Prelude.{Option, Some, None, IfSome}
+use Rattle.std.specs.Option.{option_map_or}
+use mathlib.Core.Path.{◌≡◌, refl, subst}
 use Prim.Native.Nat.{ℕ, ◌^◌, ◌≤◌, ◌<◌}
-use mathlib.Core.Bool.{Bool, true, false, not, ◌&&◌, ◌||◌, cond}
-use lib.Dec.{T, leb→le, ltb→lt, eqb, eqb→eq}
+use mathlib.Core.Bool.{Bool, true, false, not, ◌||◌}
+use lib.Dec.{T, leb→le, ltb→lt}
 use lib.IntN.{ℤ, pos, negsuc, neg_ℤ, nat_abs}
 use lib.Signed.{le_z}
-use lib.Ieee.{Float, nan, inf, fin, binary64, neg, sub, div, le, lt, eq, to_bits}
-use lib.Ieee.Fits.{and_i, and_l, and_r, eq→eqb}
+use lib.Ieee.{Float, nan, inf, fin, binary64, neg, sub, div, le, lt, eq}
+use lib.Ieee.Fits.{and_i, and_l, and_r}
 use lib.Ieee.Scale.{finite}
 use Rattle.arith.specs.Bounds.{Within}
 use Rattle.arith.specs.Rounding.{floor_of}
 use Rattle.arith.proofs.Within as sizes
-use Rattle.distribution.specs.declared.FloatDistribution.{FloatDistribution}
-use Rattle.distribution.specs.declared.IntDistribution.{IntDistribution}
 use Rattle.distribution.specs.declared.CategoricalDistribution.{CategoricalDistribution}
 use Rattle.distribution.specs.declared.Distribution.{Distribution}
 use Rattle.distribution.specs.declared.ParamValue.{ParamValue}
-use Rattle.distribution.specs.Shape.{power, within, within_z, float_shape, int_shape, categorical_shape}
+use Rattle.distribution.specs.Numbers.{FloatDistribution, IntDistribution}
+use Rattle.distribution.specs.Shape.{power, within, within_z, float_step, float_shape, int_step, int_shape, categorical_shape}
 use Rattle.distribution.specs.Taken.{taken_of}
 use Rattle.distribution.proofs.Whole as whole
 
@@ -31,6 +32,20 @@ asked false b t h = absurd h
 pub asking : (a b : Bool) → (T a → T b) → T (not a || b)
 asking true b h = h tt
 asking false b h = tt
+
+-- what is made of a step where there is one, by the two cases
+pub by-step : {A B : Type 0} (P : B → Type 0) (f : A → B) (o : Option A) (none : B) → ((step : A) → o ≡ Some step → P (f step)) → (o ≡ None → P none) → P (option_map_or f o none)
+by-step P f None none h k = k refl
+by-step P f (Some step) none h k = h step refl
+
+-- what holds of each step holds where there is one
+pub if-some : {A : Type 0} (o : Option A) (P : A → Type 0) → ((step : A) → o ≡ Some step → P step) → IfSome o P
+if-some None P h = tt
+if-some (Some step) P h = h step refl
+
+-- the test of a step, where there is one
+tested : {A : Type 0} (test : A → Bool) (o : Option A) → T (option_map_or test o true) → (step : A) → o ≡ Some step → T (test step)
+tested test o t step e = subst (λ x. T (option_map_or test x true)) e t
 
 -- ---- floats
 
@@ -56,28 +71,21 @@ pub record FloatRules (d : FloatDistribution) : Type 0 where
   pub high : Within (power (pos 52)) d.high
   pub order : T (le d.low d.high)
   pub log : T d.log_scale → T (le (power (negsuc 51)) d.low)
-  pub stepped : T d.stepped → FloatStepRules d.low d.high d.step
-  pub unstepped : T (not d.stepped) → to_bits binary64 d.step ≡ 0
+  pub steps : (step : Float) → d.step ≡ Some step → FloatStepRules d.low d.high step
 
--- the rule of the step, by whether there is one
-float-steps : (s : Bool) (low high step : Float)
-    → T (cond s (le (power (negsuc 51)) step && lt step (inf false) && le (floor_of (div binary64 (sub binary64 high low) step)) (power (pos 52))) (eqb (to_bits binary64 step) 0))
-    → (T s → FloatStepRules low high step) × (T (not s) → to_bits binary64 step ≡ 0)
-float-steps true low high step t =
-    (λ _. record { least = search parts; finite = between (negsuc 51) step (search parts) (search parts); count = search parts }, λ h. absurd h)
-float-steps false low high step t = (λ h. absurd h, λ _. eqb→eq (to_bits binary64 step) 0 t)
+step-rules : (low high step : Float) → T (float_step low high step) → FloatStepRules low high step
+unfolding float_step
+step-rules low high step t = record { least = search parts; finite = between (negsuc 51) step (search parts) (search parts); count = search parts }
 
 pub float-rules : (d : FloatDistribution) → T (float_shape d) → FloatRules d
 unfolding float_shape
 float-rules d t =
-    let s = float-steps d.stepped d.low d.high d.step (search parts) in
     record {
       low = size (power (pos 52)) d.low (search parts);
       high = size (power (pos 52)) d.high (search parts);
       order = search parts;
       log = asked d.log_scale (le (power (negsuc 51)) d.low) (search parts);
-      stepped = s.0;
-      unstepped = s.1;
+      steps = λ step e. step-rules d.low d.high step (tested (float_step d.low d.high) d.step (search parts) step e);
     }
 
 -- and back: the rules are all that the test asks
@@ -87,14 +95,13 @@ below nan h = h
 below (inf s) h = absurd h
 below (fin s m e) h = tt
 
-steps-float : (s : Bool) (low high step : Float) → (T s → FloatStepRules low high step) → (T (not s) → to_bits binary64 step ≡ 0)
-    → T (cond s (le (power (negsuc 51)) step && lt step (inf false) && le (floor_of (div binary64 (sub binary64 high low) step)) (power (pos 52))) (eqb (to_bits binary64 step) 0))
-steps-float true low high step r n =
-    let a = (r tt).least in
-    let b = below step (r tt).finite in
-    let c = (r tt).count in
+rules-step : (low high step : Float) → FloatStepRules low high step → T (float_step low high step)
+unfolding float_step
+rules-step low high step r =
+    let a = r.least in
+    let b = below step r.finite in
+    let c = r.count in
     search and_i
-steps-float false low high step r n = eq→eqb {a = to_bits binary64 step} {b = 0} (n tt)
 
 pub rules-float : (d : FloatDistribution) → FloatRules d → T (float_shape d)
 unfolding float_shape
@@ -105,7 +112,7 @@ rules-float d r =
     let e = sizes.upper (power (pos 52)) d.high r.high in
     let o = r.order in
     let l = asking d.log_scale (le (power (negsuc 51)) d.low) r.log in
-    let s = steps-float d.stepped d.low d.high d.step r.stepped r.unstepped in
+    let s = by-step T (float_step d.low d.high) d.step true (λ step e. rules-step d.low d.high step (r.steps step e)) (λ _. tt) in
     search and_i
 
 -- ---- whole numbers
@@ -127,30 +134,22 @@ pub record IntRules (d : IntDistribution) : Type 0 where
   pub high : Bounded (2 ^ 52) d.high
   pub order : T (le_z d.low d.high)
   pub log : T d.log_scale → T (le_z (pos 1) d.low)
-  pub step : Bounded (2 ^ 52) d.step
-  pub stepped : T d.stepped → T (le_z (pos 1) d.step)
-  pub unstepped : T (not d.stepped) → d.step ≡ pos 0
+  pub steps : (step : ℤ) → d.step ≡ Some step → Bounded (2 ^ 52) step × T (le_z (pos 1) step)
 
-int-steps : (s : Bool) (z : ℤ) → T (cond s (le_z (pos 1) z && le_z z (pos (2 ^ 52))) (within_z (pos 0) z))
-    → Bounded (2 ^ 52) z × (T s → T (le_z (pos 1) z)) × (T (not s) → z ≡ pos 0)
-int-steps true (pos n) t = (bounded (2 ^ 52) (pos n) (search parts), λ _. search parts, λ h. absurd h)
-int-steps true (negsuc n) t = absurd t
-int-steps false z t =
-    let e = whole.le_z-antisymm z (pos 0) (search parts) (search parts) in
-    (subst (Bounded (2 ^ 52)) (sym e) (bounded (2 ^ 52) (pos 0) tt), λ h. absurd h, λ _. e)
+int-step : (z : ℤ) → T (int_step z) → Bounded (2 ^ 52) z × T (le_z (pos 1) z)
+unfolding int_step
+int-step (pos n) t = (bounded (2 ^ 52) (pos n) (search parts), search parts)
+int-step (negsuc n) t = absurd t
 
 pub int-rules : (d : IntDistribution) → T (int_shape d) → IntRules d
 unfolding int_shape
 int-rules d t =
-    let s = int-steps d.stepped d.step (search parts) in
     record {
       low = bounded (2 ^ 52) d.low (search parts);
       high = bounded (2 ^ 52) d.high (search parts);
       order = search parts;
       log = asked d.log_scale (le_z (pos 1) d.low) (search parts);
-      step = s.0;
-      stepped = s.1;
-      unstepped = s.2;
+      steps = λ step e. int-step step (tested int_step d.step (search parts) step e);
     }
 
 pub categorical-rules : (d : CategoricalDistribution) → T (categorical_shape d) → (1 ≤ d.n_choices) × (d.n_choices ≤ 2 ^ 32)

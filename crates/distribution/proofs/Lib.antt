@@ -1,4 +1,5 @@
 pub mod EqualShape
 pub mod Equals
 pub mod Facts
+pub mod Order
 pub mod Whole

@@ -1,4 +1,5 @@
 pub mod Equal
+pub mod Numbers
 pub mod Shape
 pub mod Taken
 pub mod Value

@@ -1,19 +1,20 @@
--- "Taken: float finite, magnitude ≤ 2^53, with log ≥ 2^-53; int magnitude ≤ 2^52, with log ≥ 1; choice below the count." Definitions only.
-use Rattle.std.specs.Prelude.{ℕ, ◌^◌, Bool, false, not, ◌&&◌, ◌||◌, ltb, ℤ, pos, negsuc, Float}
+-- "Taken: float finite, magnitude ≤ 2^53, with log ≥ 2^-53; int magnitude ≤ 2^52, with log ≥ 1; choice below the count."
+-- Definitions only.
+use Rattle.std.specs.Prelude.{ℕ, ◌^◌, Bool, false, ltb, ℤ, pos, negsuc, neg_ℤ, Float}
 use Rattle.std.specs.Int.Signed.{le_z}
 use Rattle.std.specs.Float.{binary64}
-use Rattle.std.specs.Float.Ieee.{le, of_bits}
+use Rattle.std.specs.Float.Ieee.{le, neg, of_bits}
 use Rattle.std.specs.Int.{w64}
 use Rattle.std.proofs.Common.{to_z}
 use Rattle.distribution.specs.declared.Distribution.{Distribution}
 use Rattle.distribution.specs.declared.ParamValue.{ParamValue}
-use Rattle.distribution.specs.Shape.{power, within, within_z}
+use Rattle.distribution.specs.Shape.{power, ranged}
 
 unfoldable pub float_taken : Bool → Float → Bool
-float_taken log v = within (power (pos 53)) v && (not log || le (power (negsuc 52)) v)
+float_taken log v = ranged le (neg (power (pos 53))) (power (pos 53)) (power (negsuc 52)) log v
 
 unfoldable pub int_taken : Bool → ℤ → Bool
-int_taken log v = within_z (pos (2 ^ 52)) v && (not log || le_z (pos 1) v)
+int_taken log v = ranged le_z (neg_ℤ (pos (2 ^ 52))) (pos (2 ^ 52)) (pos 1) log v
 
 -- a value of another kind is never taken
 unfoldable pub taken_of : Distribution → ParamValue → Bool

@@ -5,7 +5,8 @@ ghost use Rattle.std.specs.Prelude.{◌≡◌};
 ghost use Rattle.distribution.specs.Value.{kind_of, word_of};
 
 pub mod equality;
-pub mod limits;
+mod limits;
+mod numbers;
 pub mod shape;
 pub mod taken;
 
@@ -13,33 +14,26 @@ pub use equality::equal;
 pub use shape::well_formed;
 pub use taken::{taken_rule, value_of_word};
 
-// A float parameter. An unstepped one has the step +0.
-#[derive(Clone, Copy)]
-pub struct FloatDistribution {
-    pub low: f64,
-    pub high: f64,
+// A parameter of floats or of integers, with a step where it has one.
+#[derive(Clone, Copy, PartialEq)]
+pub struct NumberDistribution<T> {
+    pub low: T,
+    pub high: T,
     pub log_scale: bool,
-    pub stepped: bool,
-    pub step: f64,
+    pub step: Option<T>,
 }
 
-// An integer parameter. An unstepped one has the step 0.
-#[derive(Clone, Copy)]
-pub struct IntDistribution {
-    pub low: i64,
-    pub high: i64,
-    pub log_scale: bool,
-    pub stepped: bool,
-    pub step: i64,
-}
+pub type FloatDistribution = NumberDistribution<f64>;
+
+pub type IntDistribution = NumberDistribution<i64>;
 
 // A choice among n_choices.
-#[derive(Clone, Copy)]
+#[derive(Clone, Copy, PartialEq)]
 pub struct CategoricalDistribution {
     pub n_choices: u64,
 }
 
-#[derive(Clone, Copy)]
+#[derive(Clone, Copy, PartialEq)]
 pub enum Distribution {
     Float(FloatDistribution),
     Int(IntDistribution),

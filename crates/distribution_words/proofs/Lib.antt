@@ -1,2 +1,3 @@
 mod Cases
+mod Read
 pub mod RoundTrip

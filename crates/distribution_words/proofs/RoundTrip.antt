@@ -1,45 +1,73 @@
 -- The round trip of a distribution and its six words, kind by kind: a word that is no NaN's is the word of the float read from it. Assumes nothing.
-use Rattle.std.specs.Prelude.{Option, Some, None}
-use mathlib.Core.Path.{◌≡◌, refl, sym, ap, subst}
+use Rattle.std.specs.Prelude.{Option, Some, None, IfSome}
+use Rattle.std.specs.Option.{is_some, option_map, unwrap_or}
+use mathlib.Core.Path.{◌≡◌, refl, ap, subst, ◌∙◌}
 use Prim.Native.Nat.{ℕ, zero, suc, ◌^◌, ◌<◌}
 use native.Mathlib.Omega.{arith}
-use mathlib.Core.Bool.{Bool, true, false, ◌&&◌, cond}
-use mathlib.Core.Logic.{◌⊎◌, inl, inr}
-use mathlib.Core.List.{List, [], ◌∷◌}
+use mathlib.Core.Bool.{Bool, true, false, ◌&&◌, ◌||◌, cond}
+use mathlib.Core.Logic.{inl, inr}
+use mathlib.Core.List.{[], ◌∷◌}
 use lib.Dec.{T, leb, leb→le, eqb, eqb→eq}
 use lib.ListN.{get_or}
 use lib.IntN.{ℤ, pos, negsuc}
-use lib.Ieee.{Float, nan, inf, fin, binary64, is_nan, of_bits, to_bits}
+use lib.Ieee.{binary64, of_bits, to_bits}
 use lib.Ieee.Bits.{is_true, of_bits-to_bits, to_bits-of_bits, of_bits-fits}
 use lib.Ieee.Fits.{and_l, and_r}
 use mir.Syntax.{w64}
-use mir.Val.{SFits, to_z}
+use mir.Val.{SFits, to_z, of_z}
 use mir.ValLaws.{to_z-of_z, of_z-to_z}
-use Rattle.arith.specs.Bounds.{real}
 use Rattle.arith.proofs.Order.{le-real}
-use Rattle.arith.proofs.Tests.{either}
-use Rattle.distribution.specs.declared.FloatDistribution.{FloatDistribution}
-use Rattle.distribution.specs.declared.IntDistribution.{IntDistribution}
-use Rattle.distribution.specs.declared.CategoricalDistribution.{CategoricalDistribution}
+use Rattle.arith.proofs.Tests.{or_split}
+use Rattle.distribution.specs.declared.NumberDistribution.{NumberDistribution}
 use Rattle.distribution.specs.declared.Distribution.{Distribution}
+use Rattle.distribution.specs.Numbers.{FloatDistribution, IntDistribution}
 use Rattle.distribution.specs.Shape.{power, shape_of}
-use Rattle.distribution_words.specs.Words.{flag, only, words_of, checked_of, float_read, int_read, categorical_read, read_of}
+use Rattle.distribution_words.specs.Words.{flag, only, flags_ok, number_of, number_words, words_of, checked_of, read_of}
 use Rattle.distribution_words.specs.RoundTrip.{Held, RoundTrip}
-use Rattle.distribution.proofs.Facts.{parts, Bounded, FloatRules, float-rules, int-rules}
+use Rattle.distribution.proofs.Facts.{parts, Bounded, if-some, float-rules, int-rules}
+use Rattle.distribution_words.proofs.Read.{malformed, only-is}
 
 -- ---- from a distribution
 
-flag-low : (b : Bool) → leb (flag b) 1 ≡ true
-flag-low true = refl
-flag-low false = refl
+module _ {A : Type 0} (word : A → ℕ) (number : ℕ → A) where
+  -- the number of a number's word is that number, for those of d
+  record Back (d : NumberDistribution A) : Type 0 where
+    low : number (word d.low) ≡ d.low
+    high : number (word d.high) ≡ d.high
+    step : IfSome d.step (λ step. number (word step) ≡ step)
 
-flag-read : (b : Bool) → eqb (flag b) 1 ≡ b
-flag-read true = refl
-flag-read false = refl
+  flags-back : (b : Bool) (o : Option A) → flags_ok (flag b) (flag (is_some o)) (unwrap_or (option_map word o) 0) ≡ true
+  flags-back true None = refl
+  flags-back true (Some step) = refl
+  flags-back false None = refl
+  flags-back false (Some step) = refl
+
+  flag-back : (b : Bool) → eqb (flag b) 1 ≡ b
+  flag-back true = refl
+  flag-back false = refl
+
+  step-back : (o : Option A) → IfSome o (λ step. number (word step) ≡ step)
+      → cond (eqb (flag (is_some o)) 1) (Some (number (unwrap_or (option_map word o) 0))) None ≡ o
+  step-back None h = refl
+  step-back (Some step) h = ap Some h
+
+  back : (d : NumberDistribution A) → Back d
+      → number_of number (word d.low) (word d.high) (flag d.log_scale) (flag (is_some d.step)) (unwrap_or (option_map word d.step) 0) ≡ d
+  back d b =
+      let log = flag-back d.log_scale in
+      let step = step-back d.step b.step in
+      λ i. record { low = b.low i; high = b.high i; log_scale = log i; step = step i }
 
 whole-fits : (z : ℤ) → Bounded (2 ^ 52) z → SFits w64 z
 whole-fits (pos n) b = record { sfits = let h = b.magnitude in omega arith }
 whole-fits (negsuc n) b = record { sfits = let h = b.magnitude in omega arith }
+
+int-back : (z : ℤ) → Bounded (2 ^ 52) z → to_z w64 (of_z w64 z) ≡ z
+int-back z b = to_z-of_z w64 z (whole-fits z b)
+
+some-if : {A : Type 0} (o : Option A) (P Q : A → Type 0) → ((x : A) → P x → Q x) → IfSome o P → IfSome o Q
+some-if None P Q h p = tt
+some-if (Some x) P Q h p = h x p
 
 checked-is : (d : Distribution) → T (shape_of d) → checked_of d ≡ Some d
 unfolding checked_of
@@ -47,117 +75,106 @@ checked-is d t = ap (λ (b : Bool). only b (Some d)) (is_true (shape_of d) t)
 
 reads : (d : Distribution) → Held d → T (shape_of d) → let w = words_of d in
     read_of (get_or w 0 0) (get_or w 1 0) (get_or w 2 0) (get_or w 3 0) (get_or w 4 0) (get_or w 5 0) ≡ Some d
-unfolding words_of read_of float_read int_read shape_of
+unfolding words_of read_of
 reads (Distribution.Float d) h t =
-    simp (flag-low, flag-read, of_bits-to_bits binary64 d.low h.0, of_bits-to_bits binary64 d.high h.1, of_bits-to_bits binary64 d.step h.2) (checked-is (Distribution.Float d) t)
+    let w = to_bits binary64 in
+    rw (flags-back w (of_bits binary64) d.log_scale d.step)
+    (ap (λ (x : FloatDistribution). checked_of (Distribution.Float x)) (back w (of_bits binary64) d (record {
+      low = of_bits-to_bits binary64 d.low h.0;
+      high = of_bits-to_bits binary64 d.high h.1;
+      step = some-if d.step _ _ (of_bits-to_bits binary64) h.2;
+    }))
+    ∙ checked-is (Distribution.Float d) t)
 reads (Distribution.Int d) h t =
     let r = int-rules d t in
-    simp (flag-low, flag-read, to_z-of_z w64 d.low (whole-fits d.low r.low), to_z-of_z w64 d.high (whole-fits d.high r.high), to_z-of_z w64 d.step (whole-fits d.step r.step))
-    (checked-is (Distribution.Int d) t)
+    rw (flags-back (of_z w64) (to_z w64) d.log_scale d.step)
+    (ap (λ (x : IntDistribution). checked_of (Distribution.Int x)) (back (of_z w64) (to_z w64) d (record {
+      low = int-back d.low r.low;
+      high = int-back d.high r.high;
+      step = if-some d.step _ (λ x e. int-back x (r.steps x e).0);
+    }))
+    ∙ checked-is (Distribution.Int d) t)
 reads (Distribution.Categorical d) h t = checked-is (Distribution.Categorical d) t
 
 -- ---- from six words
 
-never : ◌≡◌ {A = ℕ} 0 1 → ⊥
-never z = omega arith
+cond-is : {P : Type 0} (b : Bool) (x y : Option Distribution) (d : Distribution) → (T b → x ≡ Some d → P) → (y ≡ Some d → P) → cond b x y ≡ Some d → P
+cond-is true x y d f g e = f tt e
+cond-is false x y d f g e = g e
 
-pub malformed : (d : Distribution) → None ≡ Some d → ⊥
-malformed d e = let z : ◌≡◌ {A = ℕ} 0 1 = cc in never z
-
--- what is well-formed passed the test
-pub only-is : (b : Bool) (r : Option Distribution) (d : Distribution) → only b r ≡ Some d → T b × (r ≡ Some d)
-only-is true r d e = (tt, e)
-only-is false r d e = absurd (malformed d e)
-
-pick : (b : Bool) (x y : Option Distribution) (d : Distribution) → cond b x y ≡ Some d → (T b × (x ≡ Some d)) ⊎ (y ≡ Some d)
-pick true x y d e = inl (tt, e)
-pick false x y d e = inr e
-
--- that the distribution d is read from the words ws
-abbrev From : List ℕ → Distribution → Type 0
-From ws d = Held d × T (shape_of d) × (words_of d ≡ ws)
-
-from : (ws : List ℕ) (x d : Distribution) → checked_of x ≡ Some d → (T (shape_of x) → Held x × (words_of x ≡ ws)) → From ws d
+read-is : (P : Distribution → Type 0) (b : Bool) (x d : Distribution) → (T b → T (shape_of x) → P x) → only b (checked_of x) ≡ Some d → P d
 unfolding checked_of
-from ws x d e k =
-    let p = only-is (shape_of x) (Some x) d e in
+read-is P b x d k e =
+    let q = only-is b (checked_of x) d e in
+    let p = only-is (shape_of x) (Some x) d q.1 in
     let same : x ≡ d = cc p.1 in
-    let h = k p.0 in
-    subst (From ws) same (h.0, p.0, h.1)
+    subst P same (k q.0 p.0)
 
-flag_word : (n : ℕ) → T (leb n 1) → flag (eqb n 1) ≡ n
-flag_word zero t = refl
-flag_word (suc zero) t = refl
-flag_word (suc (suc n)) t = absurd (let h = leb→le (suc (suc n)) 1 t in omega arith)
+-- what is read is well-formed, and by its kind one of three
+module _ (P : Distribution → Type 0) (kind low high log stepped step : ℕ) where
+  by-kind : (let x = Distribution.Float (number_of (of_bits binary64) low high log stepped step) in T (eqb kind 1) → T (flags_ok log stepped step) → T (shape_of x) → P x)
+      → (let x = Distribution.Int (number_of (to_z w64) low high log stepped step) in T (eqb kind 2) → T (flags_ok log stepped step) → T (shape_of x) → P x)
+      → (let x = Distribution.Categorical (record { n_choices = low }) in T (eqb kind 3) → T (eqb high 0 && eqb log 0 && eqb stepped 0 && eqb step 0) → T (shape_of x) → P x)
+      → (d : Distribution) → read_of kind low high log stepped step ≡ Some d → P d
+  unfolding read_of
+  by-kind f i c d e =
+      cond-is (eqb kind 1) _ _ d (λ k e. read-is P (flags_ok log stepped step) _ d (f k) e)
+      (λ e. cond-is (eqb kind 2) _ _ d (λ k e. read-is P (flags_ok log stepped step) _ d (i k) e)
+      (λ e. cond-is (eqb kind 3) _ _ d (λ k e. read-is P (eqb high 0 && eqb log 0 && eqb stepped 0 && eqb step 0) _ d (c k) e) (λ e. absurd (malformed d e)) e) e) e
 
--- a float whose word is 0 is no NaN
-zero-real : (x : Float) → to_bits binary64 x ≡ 0 → real x
-unfolding is_nan to_bits
-zero-real nan e = absurd (omega arith)
-zero-real (inf s) e = tt
-zero-real (fin s m e) h = tt
+if-stepped : {A : Type 0} (b : Bool) (x : A) (P : A → Type 0) → P x → IfSome (cond b (Some x) None) P
+if-stepped true x P p = p
+if-stepped false x P p = tt
 
-stepped-real : (d : FloatDistribution) → FloatRules d → real d.step
-stepped-real d r =
-    elim (either d.stepped) [
-      | inl h ↦ (le-real (power (negsuc 51)) d.step (r.stepped h).least).1
-      | inr h ↦ zero-real d.step (r.unstepped h)
-    ]
+pub read_held : (kind low high log stepped step : ℕ) (d : Distribution) → read_of kind low high log stepped step ≡ Some d → Held d × T (shape_of d)
+read_held kind low high log stepped step =
+    by-kind (λ d. Held d × T (shape_of d)) kind low high log stepped step
+    (λ k f t. ((of_bits-fits binary64 low, of_bits-fits binary64 high, if-stepped (eqb stepped 1) (of_bits binary64 step) _ (of_bits-fits binary64 step)), t))
+    (λ k f t. (tt, t)) (λ k z t. (tt, t))
 
-module _ (low high log stepped step : ℕ) (d : Distribution) where
-  module _ (l : low < 2 ^ 64) (h : high < 2 ^ 64) (s : step < 2 ^ 64) where
-    float-words : float_read low high log stepped step ≡ Some d → From (1 ∷ low ∷ high ∷ log ∷ stepped ∷ step ∷ []) d
-    unfolding float_read shape_of words_of
-    float-words e =
-        let x : FloatDistribution = record { low = of_bits binary64 low; high = of_bits binary64 high; log_scale = eqb log 1; stepped = eqb stepped 1; step = of_bits binary64 step } in
-        let p = only-is (leb log 1 && leb stepped 1) (checked_of (Distribution.Float x)) d e in
-        from (1 ∷ low ∷ high ∷ log ∷ stepped ∷ step ∷ []) (Distribution.Float x) d p.1
-        (λ t.
-        let r = float-rules x t in (
-          (of_bits-fits binary64 low, of_bits-fits binary64 high, of_bits-fits binary64 step),
-          rw (to_bits-of_bits binary64 low l (le-real x.low x.high r.order).0, to_bits-of_bits binary64 high h (le-real x.low x.high r.order).1, flag_word log (and_l (leb log 1) (leb stepped 1) p.0), flag_word stepped (and_r (leb log 1) (leb stepped 1) p.0), to_bits-of_bits binary64 step s (stepped-real x r)),
-        ))
+flag-word : (n : ℕ) → T (leb n 1) → flag (eqb n 1) ≡ n
+flag-word zero t = refl
+flag-word (suc zero) t = refl
+flag-word (suc (suc n)) t = absurd (let h = leb→le (suc (suc n)) 1 t in omega arith)
 
-    int-words : int_read low high log stepped step ≡ Some d → From (2 ∷ low ∷ high ∷ log ∷ stepped ∷ step ∷ []) d
-    unfolding int_read words_of
-    int-words e =
-        let x : IntDistribution = record { low = to_z w64 low; high = to_z w64 high; log_scale = eqb log 1; stepped = eqb stepped 1; step = to_z w64 step } in
-        let p = only-is (leb log 1 && leb stepped 1) (checked_of (Distribution.Int x)) d e in
-        from (2 ∷ low ∷ high ∷ log ∷ stepped ∷ step ∷ []) (Distribution.Int x) d p.1
-        (λ t. (
-          tt,
-          rw (of_z-to_z w64 low (record { fits = l }), of_z-to_z w64 high (record { fits = h }), of_z-to_z w64 step (record { fits = s }), flag_word log (and_l (leb log 1) (leb stepped 1) p.0), flag_word stepped (and_r (leb log 1) (leb stepped 1) p.0)),
-        ))
+module _ {A : Type 0} (word : A → ℕ) (number : ℕ → A) (kind low high log stepped step : ℕ) where
+  step-words : T (eqb stepped 1 || (eqb stepped 0 && eqb step 0)) → (T (eqb stepped 1) → word (number step) ≡ step)
+      → let o = cond (eqb stepped 1) (Some (number step)) None in (flag (is_some o) ≡ stepped) × (unwrap_or (option_map word o) 0 ≡ step)
+  step-words t h =
+      elim (or_split (eqb stepped 1) (eqb stepped 0 && eqb step 0) t) [
+        | inl g ↦ rw (eqb→eq stepped 1 g) (refl, h g)
+        | inr g ↦ rw (eqb→eq stepped 0 (and_l (eqb stepped 0) (eqb step 0) g), eqb→eq step 0 (and_r (eqb stepped 0) (eqb step 0) g)) (refl, refl)
+      ]
 
-  categorical-words : categorical_read low high log stepped step ≡ Some d → From (3 ∷ low ∷ high ∷ log ∷ stepped ∷ step ∷ []) d
-  unfolding categorical_read words_of
-  categorical-words e =
-      let x : CategoricalDistribution = record { n_choices = low } in
-      let p = only-is (eqb high 0 && eqb log 0 && eqb stepped 0 && eqb step 0) (checked_of (Distribution.Categorical x)) d e in
-      let q = p.0 in
-      from (3 ∷ low ∷ high ∷ log ∷ stepped ∷ step ∷ []) (Distribution.Categorical x) d p.1
-      (λ t. (tt, rw (eqb→eq high 0 (search parts), eqb→eq log 0 (search parts), eqb→eq stepped 0 (search parts), eqb→eq step 0 (search parts))))
+  number-words : (k : ℕ) → T (eqb kind k) → T (flags_ok log stepped step) → word (number low) ≡ low → word (number high) ≡ high → (T (eqb stepped 1) → word (number step) ≡ step)
+      → number_words word k (number_of number low high log stepped step) ≡ kind ∷ low ∷ high ∷ log ∷ stepped ∷ step ∷ []
+  number-words k e t l h s =
+      let p = step-words (search parts) s in
+      rw (eqb→eq kind k e, l, h, flag-word log (search parts), p.0, p.1)
 
 words : (kind low high log stepped step : ℕ) (d : Distribution) → low < 2 ^ 64 → high < 2 ^ 64 → step < 2 ^ 64
-    → read_of kind low high log stepped step ≡ Some d → From (kind ∷ low ∷ high ∷ log ∷ stepped ∷ step ∷ []) d
-unfolding read_of
+    → read_of kind low high log stepped step ≡ Some d → Held d × T (shape_of d) × (words_of d ≡ kind ∷ low ∷ high ∷ log ∷ stepped ∷ step ∷ [])
+unfolding shape_of words_of
 words kind low high log stepped step d l h s e =
-    let f = float_read low high log stepped step in
-    let i = int_read low high log stepped step in
-    let c = categorical_read low high log stepped step in
-    elim (pick (eqb kind 1) f (cond (eqb kind 2) i (cond (eqb kind 3) c None)) d e) [
-      | inl p ↦ at 1 p.0 (float-words low high log stepped step d l h s p.1)
-      | inr e ↦ elim (pick (eqb kind 2) i (cond (eqb kind 3) c None) d e) [
-        | inl p ↦ at 2 p.0 (int-words low high log stepped step d l h s p.1)
-        | inr e ↦ elim (pick (eqb kind 3) c None d e) [
-          | inl p ↦ at 3 p.0 (categorical-words low high log stepped step d p.1)
-          | inr e ↦ absurd (malformed d e)
-        ]
-      ]
-    ]
+    let r = read_held kind low high log stepped step d e in (
+      r.0,
+      r.1,
+      by-kind (λ d. words_of d ≡ kind ∷ low ∷ high ∷ log ∷ stepped ∷ step ∷ []) kind low high log stepped step float int choice d e,
+    )
   where
-    at : (k : ℕ) → T (eqb kind k) → From (k ∷ low ∷ high ∷ log ∷ stepped ∷ step ∷ []) d → From (kind ∷ low ∷ high ∷ log ∷ stepped ∷ step ∷ []) d
-    at k t g = subst (λ (n : ℕ). From (n ∷ low ∷ high ∷ log ∷ stepped ∷ step ∷ []) d) (sym (eqb→eq kind k t)) g
+    float : T (eqb kind 1) → T (flags_ok log stepped step) → (let x = Distribution.Float (number_of (of_bits binary64) low high log stepped step) in T (shape_of x) → words_of x ≡ kind ∷ low ∷ high ∷ log ∷ stepped ∷ step ∷ [])
+    float k f t =
+        let r = float-rules (number_of (of_bits binary64) low high log stepped step) t in
+        let o = le-real (of_bits binary64 low) (of_bits binary64 high) r.order in
+        number-words (to_bits binary64) (of_bits binary64) kind low high log stepped step 1 k f (to_bits-of_bits binary64 low l o.0) (to_bits-of_bits binary64 high h o.1)
+        (λ g. to_bits-of_bits binary64 step s (le-real (power (negsuc 51)) (of_bits binary64 step) (r.steps (of_bits binary64 step) (ap (λ (b : Bool). cond b (Some (of_bits binary64 step)) None) (is_true (eqb stepped 1) g))).least).1)
+
+    int : T (eqb kind 2) → T (flags_ok log stepped step) → (let x = Distribution.Int (number_of (to_z w64) low high log stepped step) in T (shape_of x) → words_of x ≡ kind ∷ low ∷ high ∷ log ∷ stepped ∷ step ∷ [])
+    int k f t =
+        number-words (of_z w64) (to_z w64) kind low high log stepped step 2 k f (of_z-to_z w64 low (record { fits = l })) (of_z-to_z w64 high (record { fits = h })) (λ g. of_z-to_z w64 step (record { fits = s }))
+
+    choice : T (eqb kind 3) → T (eqb high 0 && eqb log 0 && eqb stepped 0 && eqb step 0) → (let x = Distribution.Categorical (record { n_choices = low }) in T (shape_of x) → words_of x ≡ kind ∷ low ∷ high ∷ log ∷ stepped ∷ step ∷ [])
+    choice k z t = rw (eqb→eq kind 3 k, eqb→eq high 0 (search parts), eqb→eq log 0 (search parts), eqb→eq stepped 0 (search parts), eqb→eq step 0 (search parts))
 
 pub round_trip : RoundTrip
 round_trip = record { reads = reads; words = words }

@@ -1,5 +1,5 @@
 -- A well-formed distribution and its six words say the same: each is read back from the other. Definitions only.
-use Rattle.std.specs.Prelude.{◌≡◌, ℕ, ◌^◌, ◌<◌, [], ◌∷◌, T, get_or, Some}
+use Rattle.std.specs.Prelude.{◌≡◌, ℕ, ◌^◌, ◌<◌, [], ◌∷◌, T, get_or, Some, IfSome}
 use Rattle.std.specs.Float.{binary64}
 use Rattle.std.specs.Float.Ieee.{fits}
 use Rattle.distribution.specs.declared.Distribution.{Distribution}
@@ -8,7 +8,8 @@ use Rattle.distribution_words.specs.Words.{words_of, read_of}
 
 -- the floats are binary64's, as those of a program are; integers and counts fit a word by their limits
 abbrev pub Held : Distribution → Type 0
-Held (Distribution.Float d) = T (fits binary64 d.low) × T (fits binary64 d.high) × T (fits binary64 d.step)
+Held (Distribution.Float d) =
+    T (fits binary64 d.low) × T (fits binary64 d.high) × IfSome d.step (λ step. T (fits binary64 step))
 Held (Distribution.Int d) = Unit
 Held (Distribution.Categorical d) = Unit
 

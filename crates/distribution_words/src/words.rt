@@ -1,17 +1,22 @@
 // The six words of a distribution.
-ghost use Rattle.std.specs.Prelude.{◌≡◌, ◌&&◌, leb};
+ghost use Rattle.std.specs.Prelude.{◌≡◌, Some};
 ghost use Rattle.distribution_words.specs.RoundTrip.{RoundTrip};
-ghost use Rattle.distribution_words.specs.Words.{words_of, read_of, float_read, int_read, categorical_read, checked_of, flag};
+ghost use Rattle.distribution_words.specs.Words.{words_of, read_of, checked_of, number_words, flags_ok, number_of, only};
 
-use distribution::limits::all;
-use distribution::{
-    CategoricalDistribution, Distribution, FloatDistribution, IntDistribution, well_formed,
-};
+use distribution::{CategoricalDistribution, Distribution, NumberDistribution, well_formed};
 
-fn flag_word(b: bool) -> u64
-    ensures { result ≡ flag b }
+// The words of a distribution of numbers, by the words of its numbers; without a step its word is 0.
+fn number_words(kind: u64, d: NumberDistribution<u64>) -> [u64; 6]
+    ensures { result ≡ number_words (λ w. w) kind d }
 {
-    u64::from(b)
+    [
+        kind,
+        d.low,
+        d.high,
+        u64::from(d.log_scale),
+        u64::from(d.step.is_some()),
+        d.step.unwrap_or(0),
+    ]
 }
 
 // The words of a distribution: kind, low, high, log, stepped, step.
@@ -20,22 +25,8 @@ pub fn words_of(d: Distribution) -> [u64; 6]
     ensures { result ≡ words_of d }
 {
     match d {
-        Distribution::Float(f) => [
-            1,
-            arith::word_of_float(f.low),
-            arith::word_of_float(f.high),
-            flag_word(f.log_scale),
-            flag_word(f.stepped),
-            arith::word_of_float(f.step),
-        ],
-        Distribution::Int(i) => [
-            2,
-            arith::word_of_int(i.low),
-            arith::word_of_int(i.high),
-            flag_word(i.log_scale),
-            flag_word(i.stepped),
-            arith::word_of_int(i.step),
-        ],
+        Distribution::Float(f) => number_words(1, f.map(arith::word_of_float)),
+        Distribution::Int(i) => number_words(2, i.map(arith::word_of_int)),
         Distribution::Categorical(c) => [3, c.n_choices, 0, 0, 0, 0],
     }
 }
@@ -48,53 +39,23 @@ fn checked(d: Distribution) -> Option<Distribution>
     if well_formed(d) { Some(d) } else { None }
 }
 
-// Whether the two flags are 0 or 1.
-fn flags(log: u64, stepped: u64) -> bool
-    ensures { result ≡ (leb log 1 && leb stepped 1) }
+// The words of numbers that five words say, where the two flags are 0 or 1 and the step's word is 0 without a step.
+fn numbers(
+    low: u64,
+    high: u64,
+    log: u64,
+    stepped: u64,
+    step: u64,
+) -> Option<NumberDistribution<u64>>
+    ensures { result ≡ only (flags_ok log stepped step) (Some (number_of (λ w. w) low high log stepped step)) }
 {
-    log <= 1 && stepped <= 1
-}
-
-#[tactic(auto, unfolding(crate::specs::Words::float_read))]
-fn read_float(low: u64, high: u64, log: u64, stepped: u64, step: u64) -> Option<Distribution>
-    ensures { result ≡ float_read low high log stepped step }
-{
-    if flags(log, stepped) {
-        checked(Distribution::Float(FloatDistribution {
-            low: arith::float_of_word(low),
-            high: arith::float_of_word(high),
+    if log <= 1 && (stepped == 1 || (stepped == 0 && step == 0)) {
+        Some(NumberDistribution {
+            low,
+            high,
             log_scale: log == 1,
-            stepped: stepped == 1,
-            step: arith::float_of_word(step),
-        }))
-    } else {
-        None
-    }
-}
-
-#[tactic(auto, unfolding(crate::specs::Words::int_read))]
-fn read_int(low: u64, high: u64, log: u64, stepped: u64, step: u64) -> Option<Distribution>
-    ensures { result ≡ int_read low high log stepped step }
-{
-    if flags(log, stepped) {
-        checked(Distribution::Int(IntDistribution {
-            low: arith::int_of_word(low),
-            high: arith::int_of_word(high),
-            log_scale: log == 1,
-            stepped: stepped == 1,
-            step: arith::int_of_word(step),
-        }))
-    } else {
-        None
-    }
-}
-
-#[tactic(auto, unfolding(crate::specs::Words::categorical_read))]
-fn read_categorical(low: u64, high: u64, log: u64, stepped: u64, step: u64) -> Option<Distribution>
-    ensures { result ≡ categorical_read low high log stepped step }
-{
-    if all(high == 0, log == 0, stepped == 0, step == 0) {
-        checked(Distribution::Categorical(CategoricalDistribution { n_choices: low }))
+            step: (stepped == 1).then_some(step),
+        })
     } else {
         None
     }
@@ -113,9 +74,15 @@ pub fn distribution_of(
     ensures { result ≡ read_of kind low high log stepped step }
 {
     match kind {
-        1 => read_float(low, high, log, stepped, step),
-        2 => read_int(low, high, log, stepped, step),
-        3 => read_categorical(low, high, log, stepped, step),
+        1 => checked(Distribution::Float(numbers(low, high, log, stepped, step)?.map(
+            arith::float_of_word,
+        ))),
+        2 => checked(Distribution::Int(numbers(low, high, log, stepped, step)?.map(
+            arith::int_of_word,
+        ))),
+        3 if high == 0 && log == 0 && stepped == 0 && step == 0 => {
+            checked(Distribution::Categorical(CategoricalDistribution { n_choices: low }))
+        }
         _ => None,
     }
 }

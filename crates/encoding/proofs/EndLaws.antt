@@ -20,8 +20,7 @@ use Rattle.arith.proofs.Within.{widen, within, upper}
 use Rattle.arith.proofs.Mono.{of_int-mono}
 use Rattle.logarithm.proofs.LnLaws.{Accepted, ln-end}
 use Rattle.logarithm.proofs.LnMono.{ln-mono}
-use Rattle.distribution.specs.declared.FloatDistribution.{FloatDistribution}
-use Rattle.distribution.specs.declared.IntDistribution.{IntDistribution}
+use Rattle.distribution.specs.Numbers.{FloatDistribution, IntDistribution}
 use Rattle.distribution.specs.declared.CategoricalDistribution.{CategoricalDistribution}
 use Rattle.distribution.specs.declared.Distribution.{Distribution}
 use Rattle.distribution.specs.Shape.{power, shape_of, float_shape, int_shape, continuous_of}

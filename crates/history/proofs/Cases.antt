@@ -1,6 +1,6 @@
 -- The training data at small histories, computed. Assumes nothing.
 use Rattle.refusal.specs.declared.Refusal.{Refusal}
-use Rattle.std.specs.Prelude.{Result, Ok, Err}
+use Rattle.std.specs.Prelude.{Result, Ok, Err, None}
 use Rattle.history.specs.declared.Training.{Training}
 use Prim.Native.Nat.{ℕ, ◌*◌}
 use mathlib.Core.Path.{◌≡◌, refl}
@@ -15,10 +15,10 @@ use Rattle.encoding.specs.Bounds.{ends_of, bounds_of}
 use Rattle.encoding.specs.Encode.{encoded_of, to_internal_of}
 use Rattle.distribution.specs.declared.Distribution.{Distribution}
 use Rattle.scaling.specs.Scaling.{to_normalized_of}
-use Rattle.distribution.specs.Equal.{equal_of, float_equal, int_equal}
+use Rattle.distribution.specs.Equal.{equal_of}
 use Rattle.distribution.specs.Shape.{shape_of, float_step, int_shape, int_step, categorical_shape}
 use Rattle.distribution.specs.Taken.{taken_of, value_of, float_taken, int_taken}
-use Rattle.distribution_words.specs.Words.{read_of, checked_of, float_read, int_read, categorical_read}
+use Rattle.distribution_words.specs.Words.{read_of, checked_of}
 use Rattle.dimensions.specs.declared.DimensionInfo.{DimensionInfo}
 use Rattle.dimensions.specs.Dimensions.{dimension_of, dimension_ok, dimensions_ok, columns_of}
 use Rattle.param_mapping.specs.Mapping.{insert_by_id, entries_of, first_entry, consumed_of, matches_of, mapped_of, asked_of}
@@ -35,7 +35,7 @@ word w = of_bits binary64 w
 
 -- an int from 3 to 3
 abbrev point : Distribution
-point = Distribution.Int (record { low = pos 3; high = pos 3; log_scale = false; stepped = false; step = pos 0 })
+point = Distribution.Int (record { low = pos 3; high = pos 3; log_scale = false; step = None })
 
 abbrev shown : Result Training Refusal → ℕ × ℕ × List Float × List Float
 shown (Ok t) = (t.n, t.d, take (t.n * t.d) t.x, take t.n t.y)
@@ -55,7 +55,7 @@ Trainings =
     × (of 1 (dimension_of point ∷ []) 1 (row 0 (9 ∷ 2 ∷ 3 ∷ 3 ∷ 0 ∷ 0 ∷ 0 ∷ 3 ∷ [])) ≡ (1, 1, word 0x3fe0000000000000 ∷ [], word 0x3ff0000000000000 ∷ []))
 
 trainings : Trainings
-unfolding training_of recent_training columns_of kept_of trains_of covers_of slot_with place_of places_of x_of y_of column_of entry_of to_internal_of encoded_of to_normalized_of sub div round mapped_of asked_of entries_of insert_by_id first_entry consumed_of matches_of dimension_ok dimensions_ok grown bounds_of ends_of check_of recent_tests whole_rows row_count recent_count recent_of row_ok slot_read slot_ok agreeing slots_ok ids_once rows_agreeing every equal_of int_equal float_equal shape_of int_shape int_step categorical_shape float_step taken_of value_of float_taken int_taken read_of checked_of float_read int_read categorical_read of_bits of_int to_bits neg le lt eq
+unfolding training_of recent_training columns_of kept_of trains_of covers_of slot_with place_of places_of x_of y_of column_of entry_of to_internal_of encoded_of to_normalized_of sub div round mapped_of asked_of entries_of insert_by_id first_entry consumed_of matches_of dimension_ok dimensions_ok grown bounds_of ends_of check_of recent_tests whole_rows row_count recent_count recent_of row_ok slot_read slot_ok agreeing slots_ok ids_once rows_agreeing every equal_of shape_of int_shape int_step categorical_shape float_step taken_of value_of float_taken int_taken read_of checked_of of_bits of_int to_bits neg le lt eq
 trainings = (refl, refl, refl, refl)
 
 -- places in an array, with their count; one more where the test holds

@@ -6,10 +6,10 @@ use mathlib.Core.List.{List, [], ◌∷◌, ◌++◌}
 use lib.ListN.{replicate}
 use lib.Ieee.{of_bits, neg, le, lt, eq}
 use Rattle.arith.specs.Lists.{every, place_of}
-use Rattle.distribution.specs.Equal.{equal_of, float_equal, int_equal}
+use Rattle.distribution.specs.Equal.{equal_of}
 use Rattle.distribution.specs.Shape.{shape_of, float_step}
 use Rattle.distribution.specs.Taken.{taken_of, value_of, float_taken, int_taken}
-use Rattle.distribution_words.specs.Words.{read_of, checked_of, float_read, int_read, categorical_read}
+use Rattle.distribution_words.specs.Words.{read_of, checked_of}
 use Rattle.history_rows.specs.First.{first_row_with, like_first, row_like_first}
 use Rattle.history_rows.specs.Recent.{recent_part}
 use Rattle.history_rows.specs.Slots.{slot_with, slot_place}
@@ -43,7 +43,7 @@ Numbers =
     × (check_of 1 (row 0 (slot 9 9 5) ++ row 0 (slot 9 9 6)) ≡ Ok tt)
 
 numbers : Numbers
-unfolding check_of recent_tests whole_rows row_count recent_count recent_of row_ok slot_read slot_ok agreeing slots_ok ids_once rows_agreeing every equal_of float_equal int_equal shape_of float_step taken_of value_of float_taken int_taken read_of checked_of float_read int_read categorical_read of_bits neg le lt eq
+unfolding check_of recent_tests whole_rows row_count recent_count recent_of row_ok slot_read slot_ok agreeing slots_ok ids_once rows_agreeing every equal_of shape_of float_step taken_of value_of float_taken int_taken read_of checked_of of_bits neg le lt eq
 numbers = (refl, refl, refl, refl, refl, refl, refl, refl, refl, refl, refl, refl, refl)
 
 -- that many good rows
@@ -91,7 +91,7 @@ Firsts =
     × (row_like_first 1 2 (row 0 (slot 9 9 5) ++ row 0 absent) (row 0 absent) ≡ true)
 
 firsts : Firsts
-unfolding row_like_first like_first first_row_with slot_with place_of slot_read every equal_of int_equal shape_of read_of checked_of int_read of_bits neg le lt eq
+unfolding row_like_first like_first first_row_with slot_with place_of slot_read every equal_of shape_of read_of checked_of of_bits neg le lt eq
 firsts = (refl, refl, refl, refl)
 
 -- a row whose state alone is bad, one that has an id twice, and one whose distribution is not the first of its id
@@ -104,5 +104,5 @@ Passes =
     × (row_like_first 1 2 (row 0 (slot 9 9 5) ++ row 0 (slot 9 8 5)) (row 0 (slot 9 8 5)) ≡ false)
 
 passes : Passes
-unfolding row_ok slots_ok slot_ok ids_once row_like_first like_first first_row_with slot_with place_of slot_read every equal_of int_equal float_equal shape_of float_step taken_of value_of float_taken int_taken read_of checked_of float_read int_read categorical_read of_bits neg le lt eq
+unfolding row_ok slots_ok slot_ok ids_once row_like_first like_first first_row_with slot_with place_of slot_read every equal_of shape_of float_step taken_of value_of float_taken int_taken read_of checked_of of_bits neg le lt eq
 passes = (refl, refl, refl, refl, refl)

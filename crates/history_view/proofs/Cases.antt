@@ -14,10 +14,10 @@ use Rattle.arith.specs.Lists.{every, grown, place_of, places_of}
 use Rattle.encoding.specs.Bounds.{ends_of, bounds_of}
 use Rattle.encoding.specs.Encode.{encoded_of, to_internal_of}
 use Rattle.scaling.specs.Scaling.{to_normalized_of}
-use Rattle.distribution.specs.Equal.{equal_of, float_equal, int_equal}
+use Rattle.distribution.specs.Equal.{equal_of}
 use Rattle.distribution.specs.Shape.{shape_of, float_step, int_shape, int_step, categorical_shape}
 use Rattle.distribution.specs.Taken.{taken_of, value_of, float_taken, int_taken}
-use Rattle.distribution_words.specs.Words.{read_of, checked_of, float_read, int_read, categorical_read}
+use Rattle.distribution_words.specs.Words.{read_of, checked_of}
 use Rattle.history.specs.RowsAgree.{RowsAgree}
 use Rattle.history_view.specs.Agree.{Agree}
 use Rattle.dimensions.specs.Dimensions.{dimension_ok, dimensions_ok, columns_of}
@@ -39,7 +39,7 @@ Viewed =
     × (view_of 3 0 dims 3 (7 ∷ first) ≡ Err BrokenRows)
 
 viewed : Viewed
-unfolding view_of training_of recent_training columns_of kept_of trains_of covers_of slot_with place_of places_of x_of y_of column_of entry_of to_internal_of encoded_of to_normalized_of sub div round mapped_of asked_of entries_of insert_by_id first_entry consumed_of matches_of dimension_ok dimensions_ok grown bounds_of ends_of check_of recent_tests whole_rows row_count recent_count recent_of row_ok slot_read slot_ok agreeing slots_ok ids_once rows_agreeing every equal_of int_equal float_equal shape_of int_shape int_step categorical_shape float_step taken_of value_of float_taken int_taken read_of checked_of float_read int_read categorical_read of_bits of_int to_bits neg le lt eq
+unfolding view_of training_of recent_training columns_of kept_of trains_of covers_of slot_with place_of places_of x_of y_of column_of entry_of to_internal_of encoded_of to_normalized_of sub div round mapped_of asked_of entries_of insert_by_id first_entry consumed_of matches_of dimension_ok dimensions_ok grown bounds_of ends_of check_of recent_tests whole_rows row_count recent_count recent_of row_ok slot_read slot_ok agreeing slots_ok ids_once rows_agreeing every equal_of shape_of int_shape int_step categorical_shape float_step taken_of value_of float_taken int_taken read_of checked_of of_bits of_int to_bits neg le lt eq
 viewed = (refl, refl, refl)
 
 -- ---- agreement: another trial number and state, and the slots the other way round

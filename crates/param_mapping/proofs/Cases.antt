@@ -9,10 +9,10 @@ use Rattle.history_rows.proofs.Samples.{slot, absent}
 use Rattle.param_mapping.specs.MappingParts.{better_of}
 use Rattle.arith.specs.Lists.{every, grown, filled}
 use Rattle.encoding.specs.Bounds.{ends_of, bounds_of}
-use Rattle.distribution.specs.Equal.{equal_of, float_equal, int_equal}
+use Rattle.distribution.specs.Equal.{equal_of}
 use Rattle.distribution.specs.Shape.{shape_of, float_step, int_shape, int_step, categorical_shape}
 use Rattle.distribution.specs.Taken.{taken_of, value_of, float_taken, int_taken}
-use Rattle.distribution_words.specs.Words.{read_of, checked_of, float_read, int_read, categorical_read}
+use Rattle.distribution_words.specs.Words.{read_of, checked_of}
 use Rattle.dimensions.specs.Dimensions.{dimension_of, dimension_ok, dimensions_ok}
 use Rattle.param_mapping.specs.Mapping.{insert_by_id, entries_of, first_entry, consumed_of, matches_of, mapped_of, asked_of, mapping_of}
 use Rattle.history_rows.specs.Rows.{whole_rows, row_count, recent_count, recent_of}
@@ -33,7 +33,7 @@ Mappings =
     × ((mapping_of 3 dims 3 (7 ∷ first)) ≡ Err BrokenRows)
 
 mappings : Mappings
-unfolding mapping_of asked_of mapped_of entries_of insert_by_id first_entry consumed_of matches_of dimension_ok dimensions_ok grown bounds_of ends_of check_of recent_tests whole_rows row_count recent_count recent_of row_ok slot_read slot_ok agreeing slots_ok ids_once rows_agreeing every equal_of int_equal float_equal shape_of int_shape int_step categorical_shape float_step taken_of value_of float_taken int_taken read_of checked_of float_read int_read categorical_read of_bits of_int to_bits neg le lt eq
+unfolding mapping_of asked_of mapped_of entries_of insert_by_id first_entry consumed_of matches_of dimension_ok dimensions_ok grown bounds_of ends_of check_of recent_tests whole_rows row_count recent_count recent_of row_ok slot_read slot_ok agreeing slots_ok ids_once rows_agreeing every equal_of shape_of int_shape int_step categorical_shape float_step taken_of value_of float_taken int_taken read_of checked_of of_bits of_int to_bits neg le lt eq
 mappings = (refl, refl, refl, refl, refl)
 
 -- of two entries that fit the one of lesser id; an absent slot, and one that does not fit, leave the entry found so far

@@ -1,4 +1,5 @@
 -- Small dimensions and rows, for cases computed: one slot is an int from 0 to 4, another an int from 0 to 8. Definitions only.
+use Rattle.std.specs.Prelude.{None}
 use Prim.Native.Nat.{ℕ}
 use mathlib.Core.Bool.{false}
 use mathlib.Core.List.{List, [], ◌∷◌, ◌++◌}
@@ -9,7 +10,7 @@ use Rattle.dimensions.specs.Dimensions.{dimension_of}
 use Rattle.history_rows.proofs.Samples.{slot, absent, row}
 
 abbrev pub int : ℕ → Distribution
-int high = Distribution.Int (record { low = pos 0; high = pos high; log_scale = false; stepped = false; step = pos 0 })
+int high = Distribution.Int (record { low = pos 0; high = pos high; log_scale = false; step = None })
 
 abbrev pub choice : ℕ → ℕ → ℕ → List ℕ
 choice id n v = id ∷ 3 ∷ n ∷ 0 ∷ 0 ∷ 0 ∷ 0 ∷ v ∷ []

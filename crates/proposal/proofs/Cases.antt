@@ -6,7 +6,7 @@ use mathlib.Core.List.{List, [], ◌∷◌}
 use lib.IntN.{pos}
 use lib.ListN.{get_or}
 use lib.Ieee.{binary64, of_bits, to_bits, of_int, to_signed, round, add, sub, mul, div, neg, le, lt, eq, is_nan}
-use Rattle.std.specs.Prelude.{Result, Ok, Err}
+use Rattle.std.specs.Prelude.{Result, Ok, Err, None}
 use Rattle.refusal.specs.declared.Refusal.{Refusal}
 use Rattle.refusal.specs.declared.Refusal.TheVariants.{BrokenRows, OutOfDomain}
 use Rattle.arith.specs.Outcome.{made}
@@ -24,9 +24,9 @@ use Rattle.distribution.specs.declared.Distribution.{Distribution}
 use Rattle.distribution.specs.declared.ParamValue.{ParamValue}
 use Rattle.distribution.specs.Shape.{shape_of, int_shape, int_step, categorical_shape}
 use Rattle.encoding.specs.Bounds.{bounds_of, ends_of}
-use Rattle.distribution.specs.Equal.{equal_of, int_equal}
+use Rattle.distribution.specs.Equal.{equal_of}
 use Rattle.distribution.specs.Taken.{taken_of, value_of, int_taken}
-use Rattle.distribution_words.specs.Words.{read_of, checked_of, int_read}
+use Rattle.distribution_words.specs.Words.{read_of, checked_of}
 use Rattle.encoding.specs.Encode.{encoded_of, to_internal_of}
 use Rattle.common.specs.Decode.{from_internal_of, decoded_of}
 use Rattle.common.specs.Grid.{int_grid}
@@ -58,7 +58,7 @@ settings startup = record { n_startup_trials = startup; n_candidates = 0; noise_
 
 -- a choice of 5, then an int from 0 to 9
 abbrev dims : List DimensionInfo
-dims = dimension_of (Distribution.Categorical (record { n_choices = 5 })) ∷ dimension_of (Distribution.Int (record { low = pos 0; high = pos 9; log_scale = false; stepped = false; step = pos 0 })) ∷ []
+dims = dimension_of (Distribution.Categorical (record { n_choices = 5 })) ∷ dimension_of (Distribution.Int (record { low = pos 0; high = pos 9; log_scale = false; step = None })) ∷ []
 
 -- words drawn and the two values
 abbrev told : Values → ℕ × ParamValue × ParamValue
@@ -86,5 +86,5 @@ abbrev Modelled : Type 0
 Modelled = said (compute_candidate_of (settings 1) dims 2 1 (7 ∷ 1 ∷ 0 ∷ 9 ∷ 2 ∷ 0 ∷ 9 ∷ 0 ∷ 0 ∷ 0 ∷ 5 ∷ [])) ≡ Ok (1, ParamValue.Categorical 1, ParamValue.Int (pos 5))
 
 modelled : Modelled
-unfolding compute_candidate_of candidate_of point_for step_of walk_of settings_ok view_of training_of recent_training slot_with entry_of column_of kept_of trains_of covers_of x_of y_of asked_of mapped_of entries_of insert_by_id first_entry consumed_of matches_of dimension_ok dimensions_ok columns_of whole_rows row_count recent_count recent_of row_ok slot_read slot_ok agreeing slots_ok ids_once rows_agreeing recent_tests check_of equal_of int_equal taken_of value_of int_taken read_of checked_of int_read encoded_of to_internal_of to_normalized_of optimum_of advance_of fit_of fit_domain fitted_of all_within covariance_of similarity_of lengthscale_of variance_of mean_of cholesky_of factor_columns rows_of less_of matern52_of scaled_root_of decay_of sum_over exp_of horner_of reduced_of scaled_of whole_of sqrt_of root_of isqrt from_normalized_of bounds_of ends_of from_internal_of decoded_of int_grid sample_random_of random_of int_random linear_int_random categorical_random shape_of int_shape int_step categorical_shape word_draw_of whole_draw_of whole_at range_ok unit_of next_of moved_of nearest_of round_of every grown place_of places_of of_bits to_bits of_int to_signed round add sub mul div neg le lt eq is_nan
+unfolding compute_candidate_of candidate_of point_for step_of walk_of settings_ok view_of training_of recent_training slot_with entry_of column_of kept_of trains_of covers_of x_of y_of asked_of mapped_of entries_of insert_by_id first_entry consumed_of matches_of dimension_ok dimensions_ok columns_of whole_rows row_count recent_count recent_of row_ok slot_read slot_ok agreeing slots_ok ids_once rows_agreeing recent_tests check_of equal_of taken_of value_of int_taken read_of checked_of encoded_of to_internal_of to_normalized_of optimum_of advance_of fit_of fit_domain fitted_of all_within covariance_of similarity_of lengthscale_of variance_of mean_of cholesky_of factor_columns rows_of less_of matern52_of scaled_root_of decay_of sum_over exp_of horner_of reduced_of scaled_of whole_of sqrt_of root_of isqrt from_normalized_of bounds_of ends_of from_internal_of decoded_of int_grid sample_random_of random_of int_random linear_int_random categorical_random shape_of int_shape int_step categorical_shape word_draw_of whole_draw_of whole_at range_ok unit_of next_of moved_of nearest_of round_of every grown place_of places_of of_bits to_bits of_int to_signed round add sub mul div neg le lt eq is_nan
 modelled = refl

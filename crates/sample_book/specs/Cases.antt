@@ -1,5 +1,5 @@
 -- Document 01's sample book, as facts of the definitions. Definitions and statements only.
-use Rattle.std.specs.Prelude.{◌≡◌, false, ℤ, pos, negsuc, [], ◌∷◌, Some, None, Ok}
+use Rattle.std.specs.Prelude.{◌≡◌, false, ℤ, pos, negsuc, [], ◌∷◌, Some, None, Ok, cond}
 use Rattle.std.specs.Int.Signed.{lt_z}
 use Rattle.std.specs.Float.{binary64}
 use Rattle.std.specs.Float.Ieee.{of_bits, of_int, to_bits}
@@ -22,7 +22,7 @@ use Rattle.rng_util.specs.Generator.{stream_of}
 
 -- the ints from low to high, with a step unless it is 0, on linear scale
 abbrev pub ints : ℤ → ℤ → ℤ → Distribution
-ints low high step = Distribution.Int (record { low = low; high = high; log_scale = false; stepped = lt_z (pos 0) step; step = step })
+ints low high step = Distribution.Int (record { low = low; high = high; log_scale = false; step = cond (lt_z (pos 0) step) (Some step) None })
 
 -- what is drawn
 abbrev value : {A : Type 0} → Draw A → A

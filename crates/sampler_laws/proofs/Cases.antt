@@ -12,7 +12,7 @@ use Rattle.rng_util.specs.Generator.{stream_of, next_of as step}
 use Rattle.distribution.specs.declared.Distribution.{Distribution}
 use Rattle.distribution.specs.declared.ParamValue.{ParamValue}
 use Rattle.distribution.specs.Shape.{shape_of, int_shape, int_step, categorical_shape}
-use Rattle.distribution_words.specs.Words.{read_of, checked_of, int_read, categorical_read}
+use Rattle.distribution_words.specs.Words.{read_of, checked_of}
 use Rattle.encoding.specs.Bounds.{bounds_of, ends_of}
 use Rattle.common.specs.Random.{sample_random_of, random_of, int_random, linear_int_random, categorical_random}
 use Rattle.dimensions.specs.Empty.{empty_value}
@@ -94,7 +94,7 @@ Run =
     × ((choice (with_word fresh 0) 7).answer ≡ Err OutOfDomain)
 
 run : Run
-unfolding sample_of close_of discover_of serving_of active_of served_of trial_place free_place spot_for taken_count place_ok trials_once sampler_ok settings_ok candidate_of compute_candidate_of step_of walk_of view_of training_of recent_training asked_of dimension_ok dimensions_ok columns_of whole_rows row_count recent_count recent_of recent_tests check_of bounds_of ends_of sample_random_of random_of int_random linear_int_random categorical_random shape_of int_shape int_step categorical_shape read_of checked_of int_read categorical_read word_draw_of whole_draw_of whole_of range_ok step every grown place_of places_of of_bits to_bits of_int le lt eq neg
+unfolding sample_of close_of discover_of serving_of active_of served_of trial_place free_place spot_for taken_count place_ok trials_once sampler_ok settings_ok candidate_of compute_candidate_of step_of walk_of view_of training_of recent_training asked_of dimension_ok dimensions_ok columns_of whole_rows row_count recent_count recent_of recent_tests check_of bounds_of ends_of sample_random_of random_of int_random linear_int_random categorical_random shape_of int_shape int_step categorical_shape read_of checked_of word_draw_of whole_draw_of whole_of range_ok step every grown place_of places_of of_bits to_bits of_int le lt eq neg
 run = (refl, refl, refl, refl, refl, refl, refl, refl, refl, refl, refl, refl)
 
 -- ---- the same run as a list of calls, and what the laws say of each
@@ -133,7 +133,7 @@ Laws =
     × (fit_made third.sampler [] ≡ false)
 
 laws : Laws
-unfolding new_trial has_model words_taken answers_of end_of sample_of close_of discover_of serving_of active_of served_of trial_place free_place spot_for taken_count place_ok trials_once sampler_ok settings_ok candidate_of compute_candidate_of step_of walk_of view_of training_of recent_training asked_of dimension_ok dimensions_ok columns_of whole_rows row_count recent_count recent_of recent_tests check_of bounds_of ends_of sample_random_of random_of int_random linear_int_random categorical_random shape_of int_shape int_step categorical_shape read_of checked_of int_read categorical_read word_draw_of whole_draw_of whole_of range_ok step every grown place_of places_of of_bits to_bits of_int le lt eq neg
+unfolding new_trial has_model words_taken answers_of end_of sample_of close_of discover_of serving_of active_of served_of trial_place free_place spot_for taken_count place_ok trials_once sampler_ok settings_ok candidate_of compute_candidate_of step_of walk_of view_of training_of recent_training asked_of dimension_ok dimensions_ok columns_of whole_rows row_count recent_count recent_of recent_tests check_of bounds_of ends_of sample_random_of random_of int_random linear_int_random categorical_random shape_of int_shape int_step categorical_shape read_of checked_of word_draw_of whole_draw_of whole_of range_ok step every grown place_of places_of of_bits to_bits of_int le lt eq neg
 laws = (refl, refl, refl, refl, refl, refl, refl, refl, refl, refl, refl, refl, refl, refl, refl, refl)
 
 -- ---- one trial served, and put back
@@ -180,7 +180,7 @@ Servings =
     × (put (Err OutOfDomain) ≡ refused_of before OutOfDomain)
 
 servings : Servings
-unfolding sample_of close_of discover_of serving_of active_of served_of trial_place free_place spot_for taken_count place_ok trials_once sampler_ok settings_ok candidate_of compute_candidate_of step_of walk_of view_of training_of recent_training asked_of dimension_ok dimensions_ok columns_of whole_rows row_count recent_count recent_of recent_tests check_of bounds_of ends_of sample_random_of random_of int_random linear_int_random categorical_random shape_of int_shape int_step categorical_shape read_of checked_of int_read categorical_read word_draw_of whole_draw_of whole_of range_ok step every grown place_of places_of of_bits to_bits of_int le lt eq neg
+unfolding sample_of close_of discover_of serving_of active_of served_of trial_place free_place spot_for taken_count place_ok trials_once sampler_ok settings_ok candidate_of compute_candidate_of step_of walk_of view_of training_of recent_training asked_of dimension_ok dimensions_ok columns_of whole_rows row_count recent_count recent_of recent_tests check_of bounds_of ends_of sample_random_of random_of int_random linear_int_random categorical_random shape_of int_shape int_step categorical_shape read_of checked_of word_draw_of whole_draw_of whole_of range_ok step every grown place_of places_of of_bits to_bits of_int le lt eq neg
 servings = (refl, refl, refl, refl, refl, refl, refl, refl, refl, refl)
 
 -- two candidates and no start-up: after discovery of the int a new trial without a row asks for a fit, which has none, and its points would be the next two words
@@ -196,5 +196,5 @@ Points =
     × (point_drawn (with_word eager 1) 1 ≡ unit_of 0x100041060c011441 ∷ [])
 
 points : Points
-unfolding has_model point_drawn stream_of fit_of fit_domain all_within sample_of discover_of served_of sampler_ok settings_ok view_of training_of recent_training asked_of mapped_of kept_of x_of y_of dimension_ok dimensions_ok columns_of whole_rows row_count recent_count recent_of recent_tests check_of bounds_of ends_of sample_random_of random_of int_random linear_int_random shape_of int_shape int_step read_of checked_of int_read word_draw_of whole_draw_of whole_of range_ok step every grown places_of place_ok trials_once of_bits to_bits of_int le lt eq neg
+unfolding has_model point_drawn stream_of fit_of fit_domain all_within sample_of discover_of served_of sampler_ok settings_ok view_of training_of recent_training asked_of mapped_of kept_of x_of y_of dimension_ok dimensions_ok columns_of whole_rows row_count recent_count recent_of recent_tests check_of bounds_of ends_of sample_random_of random_of int_random linear_int_random shape_of int_shape int_step read_of checked_of word_draw_of whole_draw_of whole_of range_ok step every grown places_of place_ok trials_once of_bits to_bits of_int le lt eq neg
 points = (refl, refl, refl, refl, refl)

@@ -1,4 +1,3 @@
-pub mod Asked
 pub mod Best
 mod Cases
 pub mod Changes

@@ -36,7 +36,7 @@ use Rattle.sampler_laws.specs.Calls.{answered_of, with_place, activated, with_di
 use Rattle.sampler_laws.specs.Laws.{WellFormed}
 use Rattle.sampler_laws.specs.NewTrials.{past_discovery, served_history}
 use Rattle.sampler_laws.specs.Runs.{Asked, asks, closes, Call, call_of, Along}
-use Rattle.sampler_laws.proofs.Asked.{read_held}
+use Rattle.distribution_words.proofs.RoundTrip.{read_held}
 use Rattle.sampler_laws.proofs.Changes.{free-ok, taken-ok, ok-taken, dimension-formed, with-word, with-place, ended, with-dimension}
 use Rattle.sampler_laws.proofs.Nothing.{served-accepted, refusal-small}
 use Rattle.sampler_laws.proofs.OneTrial.{Ranged, serving-nonzero, serving-ranged, serves-own}

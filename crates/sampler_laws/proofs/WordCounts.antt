@@ -28,7 +28,7 @@ use Rattle.sampler_laws.specs.Calls.{refused_of, answered_of, with_dimension, ac
 use Rattle.sampler_laws.specs.Laws.{Typed, WordsDrawn, stored_next, words_taken}
 use Rattle.sampler_laws.specs.NewTrials.{past_discovery, new_trial, served_history, has_model}
 use Rattle.sampler_laws.specs.Runs.{Asked, asks, closes, Call, call_of}
-use Rattle.sampler_laws.proofs.Asked.{read_held}
+use Rattle.distribution_words.proofs.RoundTrip.{read_held}
 use Rattle.sampler_laws.proofs.Parts.{well, ready, taken-active}
 use Rattle.sampler_laws.proofs.OneTrial.{words_for, serving-words}
 use Rattle.sampler_laws.proofs.Ways.{Passed, discovering, by-sample, by-close}

@@ -1,4 +1,5 @@
 -- Places looked up, judged and counted, computed: a trial's place, the empty one where it has none, and where a place is written. Assumes nothing.
+use Rattle.std.specs.Prelude.{None}
 use Prim.Native.Nat.{ℕ}
 use mathlib.Core.Path.{◌≡◌, refl}
 use mathlib.Core.Bool.{true, false}
@@ -31,7 +32,7 @@ full = replicate 32 (place 7 1)
 abbrev dims : List DimensionInfo
 dims =
     (record { distribution = Distribution.Categorical (record { n_choices = 5 }); lo = of_bits binary64 0; hi = of_bits binary64 0 })
-    ∷ (record { distribution = Distribution.Int (record { low = pos 0; high = pos 9; log_scale = false; stepped = false; step = pos 0 }); lo = of_bits binary64 0; hi = of_bits binary64 0 })
+    ∷ (record { distribution = Distribution.Int (record { low = pos 0; high = pos 9; log_scale = false; step = None }); lo = of_bits binary64 0; hi = of_bits binary64 0 })
     ∷ []
 
 abbrev Places : Type 0

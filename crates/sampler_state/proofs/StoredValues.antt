@@ -1,7 +1,7 @@
 -- A float and a choice may be stored exactly when the Taken rule lets them. Assumes nothing.
 use Rattle.std.proofs.Common.{◌≡◌, refl}
 use Rattle.distribution.specs.declared.Distribution.{Distribution}
-use Rattle.distribution.specs.declared.IntDistribution.{IntDistribution}
+use Rattle.distribution.specs.Numbers.{IntDistribution}
 use Rattle.distribution.specs.declared.ParamValue.{ParamValue}
 use Rattle.distribution.specs.Taken.{taken_of}
 use Rattle.sampler_state.specs.State.{stored_ok}
