@@ -6,8 +6,7 @@ use native.Mathlib.Nat.{mul-le-mul}
 use native.Mathlib.Omega.{arith}
 use lib.ListN.{get_or}
 use lib.Ieee.{Float, nan, binary64, sub, mul, div}
-use Rattle.factor.specs.Triangle.{at, less_of}
-use Rattle.factor.proofs.Triangle.{size-suc, at_room}
+use Rattle.factor.specs.Triangle.{less_of}
 use Rattle.lanes.specs.Rows.{eight_of}
 use Rattle.lanes.proofs.Rows.{eight-at, eight-same}
 

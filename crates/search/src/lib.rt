@@ -24,7 +24,8 @@ pub struct Search {
 }
 
 // A model lent part by part, whose counts fit.
-// Kept: beside Model, since through one `&Model` the counts are read anew in each turn: measured 3 % slower.
+// Kept: beside Model, since through one `&Model` the counts are read anew in each turn, measured 3 % slower; and with
+// its counts, since the slices are the whole of the model's arrays (document 01: fixed arrays with counts).
 #[derive(Clone, Copy)]
 pub(crate) struct Lent<'a> {
     pub x_train: &'a [f64],

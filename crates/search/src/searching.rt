@@ -73,6 +73,7 @@ fn in_domain(m: &Model, n_dims: usize, word: u64) -> bool
 }
 
 // The earliest point, of those drawn, with the highest expected improvement: 11 outside its domain.
+// Kept: `n_dims` beside the model, as in the Rust: another count than the model's is 11.
 pub fn optimize_acquisition(
     m: Model,
     n_dims: usize,

@@ -1,5 +1,5 @@
 -- `lanes::solving::unknown` meets its contract: before each turn each lane has lost the k products passed. Assumes nothing.
-use Prim.Native.Nat.{ℕ, ◌+◌}
+use Prim.Native.Nat.{◌+◌}
 use mathlib.Core.Path.{◌≡◌, refl}
 use native.Mathlib.Numerals.{add-one}
 use native.Mathlib.Omega.{arith}

@@ -1,5 +1,5 @@
 -- `lanes::sums::dot_each` meets its contract: before each turn each lane has the sum of the i products passed. Assumes nothing.
-use mathlib.Core.Path.{◌≡◌, refl}
+use mathlib.Core.Path.{◌≡◌}
 use native.Mathlib.Numerals.{add-one}
 use native.Mathlib.Omega.{arith}
 use borrow.Author.Tests.{le-leb}
