@@ -1,9 +1,11 @@
 // One line after the other.
 ghost use Rattle.std.specs.Prelude.{◌≡◌, cond, List, ℕ, min, length};
+ghost use Rattle.refusal.specs.declared.Refusal.{Refusal};
 ghost use Rattle.text_laws.specs.Steps.{Reading, reading_of, stepped_of, awaits, ends, named, settings_of, settings_line, row_line, history_line, call_line, history_named, sampled_of, answered_of, start_of, step_of, finish_at, finish_of};
 ghost use Rattle.text_laws.specs.declared.Event.{Event};
 ghost use Rattle.text_laws.specs.declared.Stage.{Stage};
 
+use refusal::Refusal;
 use sampler_laws::Sampled;
 use settings::Settings;
 use text_laws::{Event, Reader, Stage, Step};
@@ -15,23 +17,21 @@ fn awaiting(reader: Reader, event: Event) -> Step
     Step {
         reader,
         event,
-        len: 0,
-        bytes: [0; 68],
+        line: None,
     }
 }
 
-// The run ends with a number.
-fn ending(number: u64, reader: Reader) -> Step
-    ensures { (h : List ℕ) → stepped_of result h ≡ ends number (reading_of reader h) }
+// The run ends with a refusal.
+fn ending(refusal: Refusal, reader: Reader) -> Step
+    ensures { (h : List ℕ) → stepped_of result h ≡ ends refusal (reading_of reader h) }
 {
     Step {
         reader: Reader {
             stage: Stage::Ended,
             ..reader
         },
-        event: Event::Refused(number),
-        len: 68,
-        bytes: propose_lines::answer_line(0, 0, number, 0),
+        event: Event::Refused(refusal),
+        line: Some(propose_lines::answer_line(0, 0, refusal.number(), 0)),
     }
 }
 
@@ -42,7 +42,7 @@ fn after_names(ok: bool, stage: Stage, r: Reader) -> Step
     if ok {
         return awaiting(Reader { stage, ..r }, Event::Names);
     }
-    ending(14, r)
+    ending(Refusal::Text, r)
 }
 
 // The settings that five words are.
@@ -59,16 +59,17 @@ fn settings_of(words: [u64; 5]) -> Settings
 }
 
 // The line of the settings: a sampler is made of them.
+#[tactic(auto, unfolding(text_laws::specs::Steps::settings_line))]
 fn settings_line(r: Reader, line: &[u8]) -> Step
     ensures { (h : List ℕ) → stepped_of result h ≡ settings_line (reading_of r h) line.now }
 {
     let mut words = [0u64; 5];
     if !propose_lines::read_words(line, 5, &mut words, 0) {
-        return ending(14, r);
+        return ending(Refusal::Text, r);
     }
     let made = sampler_state::build(settings_of(words));
     if made.number != 0 {
-        return ending(made.number, r);
+        return ending(Refusal::Settings, r);
     }
     let fresh = Reader {
         stage: Stage::HistoryNames,
@@ -94,17 +95,18 @@ fn held(count: usize) -> usize
 }
 
 // A row: its words go behind those that are there, as long as the array has room for them.
+#[tactic(auto, unfolding(text_laws::specs::Steps::row_line))]
 fn row_line(r: Reader, line: &[u8], history: &mut [u64; 8192]) -> Step
     ensures { stepped_of result history.new ≡ row_line (reading_of r history.old) line.now }
 {
     let slots = r.sampler.settings.slots;
     let at = held(r.count);
     if slots > 20 {
-        return ending(14, Reader { count: at, ..r });
+        return ending(Refusal::Text, Reader { count: at, ..r });
     }
     let k = 3 + 8 * slots as usize;
     if !propose_lines::read_words(line, k, history, at) {
-        return ending(14, Reader { count: at, ..r });
+        return ending(Refusal::Text, Reader { count: at, ..r });
     }
     let more = Reader {
         stage: Stage::History,
@@ -115,6 +117,7 @@ fn row_line(r: Reader, line: &[u8], history: &mut [u64; 8192]) -> Step
 }
 
 // A row, or the names of the calls.
+#[tactic(auto, unfolding(text_laws::specs::Steps::history_line))]
 fn history_line(r: Reader, line: &[u8], history: &mut [u64; 8192]) -> Step
     ensures { stepped_of result history.new ≡ history_line (reading_of r history.old) line.now }
 {
@@ -140,17 +143,17 @@ fn answered(trial: u64, a: Sampled, count: usize) -> Step
             count,
         },
         event: Event::Call,
-        len: 68,
-        bytes: propose_lines::answer_line(
+        line: Some(propose_lines::answer_line(
             trial,
             distribution::kind(value),
             distribution::word(value),
             a.drawn,
-        ),
+        )),
     }
 }
 
 // What the sampler answers to the seven words of a call.
+#[tactic(auto, using(crate::proofs::Held::held_part))]
 fn called(r: &Reader, words: [u64; 7], history: &[u64; 8192]) -> Sampled
     ensures { result ≡ sampled_of (reading_of r.now history.now) words }
 {
@@ -169,12 +172,13 @@ fn called(r: &Reader, words: [u64; 7], history: &[u64; 8192]) -> Sampled
 }
 
 // A call on the sampler.
+#[tactic(auto, unfolding(text_laws::specs::Steps::call_line))]
 fn call_line(r: Reader, line: &[u8], history: &[u64; 8192]) -> Step
     ensures { stepped_of result history.now ≡ call_line (reading_of r history.now) line.now }
 {
     let mut words = [0u64; 7];
     if !propose_lines::read_words(line, 7, &mut words, 0) {
-        return ending(14, r);
+        return ending(Refusal::Text, r);
     }
     let a = called(&r, words, history);
     answered(words[0], a, r.count)
@@ -199,6 +203,7 @@ pub fn start() -> Reader
 }
 
 // One line of the input, without its newline. The array holds the history from row to row.
+#[tactic(auto, unfolding(text_laws::specs::Steps::step_of))]
 pub fn read_line(r: Reader, line: &[u8], history: &mut [u64; 8192]) -> Step
     ensures { stepped_of result history.new ≡ step_of (reading_of r history.old) line.now }
 {
@@ -214,16 +219,17 @@ pub fn read_line(r: Reader, line: &[u8], history: &mut [u64; 8192]) -> Step
 
 // Whether a text may end where this line is awaited, with what stands after its last newline.
 fn may_end(stage: Stage, rest: &[u8]) -> bool
-    ensures { (r : Reading) → finish_at stage r rest.now ≡ cond result (awaits Stage.Ended Event.Nothing r) (ends 14 r) }
+    ensures { (r : Reading) → finish_at stage r rest.now ≡ cond result (awaits Stage.Ended Event.Nothing r) (ends Refusal.Text r) }
 {
     match stage {
-        Stage::Calls => rest.len() == 0,
+        Stage::Calls => rest.is_empty(),
         Stage::Ended => true,
         _ => false,
     }
 }
 
 // The end of the input, with what stands after its last newline.
+#[tactic(auto, unfolding(text_laws::specs::Steps::finish_of))]
 pub fn finish(r: Reader, rest: &[u8]) -> Step
     ensures { (h : List ℕ) → stepped_of result h ≡ finish_of (reading_of r h) rest.now }
 {
@@ -234,5 +240,5 @@ pub fn finish(r: Reader, rest: &[u8]) -> Step
         };
         return awaiting(ended, Event::Nothing);
     }
-    ending(14, r)
+    ending(Refusal::Text, r)
 }

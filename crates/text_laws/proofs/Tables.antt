@@ -7,6 +7,8 @@ use native.Mathlib.Omega.{arith}
 use borrow.Author.Tests.{le-leb}
 use lib.ListN.{length, get_or, length-append}
 use Rattle.distribution.specs.Value.{kind_of, word_of}
+use Rattle.refusal.specs.declared.Refusal.{Refusal}
+use Rattle.refusal.specs.Numbers.{cause_number}
 use Rattle.settings.specs.Settings.{settings_ok}
 use Rattle.sampler_state.specs.declared.Sampler.{Sampler}
 use Rattle.sampler_laws.specs.Runs.{answers_of, end_of}
@@ -25,12 +27,12 @@ abbrev pub at : Stage → Sampler → List ℕ → Reading
 at stage s h = record { stage = stage; sampler = s; history = h }
 
 -- a line that ends the run: its number is the last that is written
-pub last_line : (r : Reading) (line rest : List ℕ) (n : ℕ) → plain line ≡ true → step_of r line ≡ ends n r → read_of r [] (ended line ++ rest) ≡ answer_line 0 0 n 0
+pub last_line : (r : Reading) (line rest : List ℕ) (n : Refusal) → plain line ≡ true → step_of r line ≡ ends n r → read_of r [] (ended line ++ rest) ≡ answer_line 0 0 (cause_number n) 0
 last_line r line rest n p e =
     read-ended r line rest p
     ∙ ap (λ (t : Stepped). t.written ++ read_of t.reading [] rest) e
-    ∙ ap (λ (l : List ℕ). answer_line 0 0 n 0 ++ l) (silent r.sampler r.history [] rest)
-    ∙ append-nil (answer_line 0 0 n 0)
+    ∙ ap (λ (l : List ℕ). answer_line 0 0 (cause_number n) 0 ++ l) (silent r.sampler r.history [] rest)
+    ∙ append-nil (answer_line 0 0 (cause_number n) 0)
 
 -- a line after which another is awaited
 pub next-line : (r next : Reading) (event : Event) (line rest : List ℕ) → plain line ≡ true → step_of r line ≡ record { reading = next; event = event; written = [] } → read_of r [] (ended line ++ rest) ≡ read_of next [] rest
@@ -88,7 +90,7 @@ module _ (s : Sampler) (h ws rest : List ℕ) (w : Words 5 ws) where
 
   pub read-refused : settings_ok (settings_of ws) ≡ false → read_of (at Stage.Settings s h) [] (ended (line_of ws) ++ rest) ≡ answer_line 0 0 1 0
   unfolding make_of
-  read-refused out = last_line _ (line_of ws) rest 1 (line_plain ws) (settings-step ∙ rw out)
+  read-refused out = last_line _ (line_of ws) rest Refusal.Settings (line_plain ws) (settings-step ∙ rw out)
 
 -- ---- the history
 

@@ -8,6 +8,7 @@ use borrow.Author.Tests.{le-leb, leb-true, ne_eqb}
 use lib.Dec.{eqb, leb}
 use lib.ListN.{length, length-append}
 use lib.Ieee.{binary64, of_bits, le}
+use Rattle.refusal.specs.declared.Refusal.{Refusal}
 use Rattle.settings.specs.declared.Settings.{Settings}
 use Rattle.settings.specs.Settings.{settings_ok}
 use Rattle.sampler_state.specs.declared.Sampler.{Sampler}
@@ -70,7 +71,7 @@ whole d w =
 
 -- ---- malformed once the calls have begun
 
-calls-malformed : (s : Sampler) (h line : List ℕ) → is_words 7 line ≡ false → step_of (at Stage.Calls s h) line ≡ ends 14 (at Stage.Calls s h)
+calls-malformed : (s : Sampler) (h line : List ℕ) → is_words 7 line ≡ false → step_of (at Stage.Calls s h) line ≡ ends Refusal.Text (at Stage.Calls s h)
 unfolding step_of call_line
 calls-malformed s h line e = rw e
 
@@ -84,7 +85,7 @@ no_call s h rest n = go (cut rest)
   where
     judged : (line more : List ℕ) → plain line ≡ true → rest ≡ ended line ++ more → (x : Bool) → is_words 7 line ≡ x → read_of (at Stage.Calls s h) [] rest ≡ line14
     judged line more p q true e = let b = words-read-back 7 line (omega arith) e in absurd (n.none (words_in 7 line) more b.0 (q ∙ ap (λ (l : List ℕ). ended l ++ more) b.1))
-    judged line more p q false e = ap (read_of (at Stage.Calls s h) []) q ∙ last_line (at Stage.Calls s h) line more 14 p (calls-malformed s h line e)
+    judged line more p q false e = ap (read_of (at Stage.Calls s h) []) q ∙ last_line (at Stage.Calls s h) line more Refusal.Text p (calls-malformed s h line e)
 
     go : Cut rest → read_of (at Stage.Calls s h) [] rest ≡ line14
     go (no_line p) = read-rest (at Stage.Calls s h) [] rest p ∙ calls-unfinished s h rest n.some
@@ -107,13 +108,13 @@ refused ws rest w out =
 
 -- a line that is none of the history's: 14
 history-malformed : (s : Sampler) (h line : List ℕ) → slots_of s ≤ 20 → leb (length h + row_words (slots_of s)) 8192 ≡ true → same_bytes line call_names ≡ false → is_words (row_words (slots_of s)) line ≡ false
-    → step_of (at Stage.History s h) line ≡ ends 14 (at Stage.History s h)
+    → step_of (at Stage.History s h) line ≡ ends Refusal.Text (at Stage.History s h)
 unfolding step_of history_line row_line
 history-malformed s h line few room e f = rw (e, le-leb (slots_of s) 20 few, room, f)
 
 -- a row for which there is no room: 14
 history-full : (s : Sampler) (h line : List ℕ) → slots_of s ≤ 20 → leb (length h + row_words (slots_of s)) 8192 ≡ false → same_bytes line call_names ≡ false
-    → step_of (at Stage.History s h) line ≡ ends 14 (at Stage.History s h)
+    → step_of (at Stage.History s h) line ≡ ends Refusal.Text (at Stage.History s h)
 unfolding step_of history_line row_line
 history-full s h line few room e = rw (e, le-leb (slots_of s) 20 few, room)
 
@@ -146,8 +147,8 @@ module _ (s : Sampler) (h text line rest : List ℕ) (few : slots_of s ≤ 20) (
   unfolding NoRows Table joined lines_of
   a-history-line room = named (same_bytes line call_names) refl
     where
-      ended_here : step_of (at Stage.History s h) line ≡ ends 14 (at Stage.History s h) → read_of (at Stage.History s h) [] text ≡ line14
-      ended_here e = ap (read_of (at Stage.History s h) []) q ∙ last_line (at Stage.History s h) line rest 14 p e
+      ended_here : step_of (at Stage.History s h) line ≡ ends Refusal.Text (at Stage.History s h) → read_of (at Stage.History s h) [] text ≡ line14
+      ended_here e = ap (read_of (at Stage.History s h) []) q ∙ last_line (at Stage.History s h) line rest Refusal.Text p e
 
       judged : same_bytes line call_names ≡ false → (b : Bool) → leb (length h + row_words (slots_of s)) 8192 ≡ b → (x : Bool) → is_words (row_words (slots_of s)) line ≡ x → read_of (at Stage.History s h) [] text ≡ line14
       judged e true fit true i = a-row (leb-true _ 8192 fit) i
@@ -177,7 +178,7 @@ no_rows (suc n) s h text short few room f =
     one_line s h text few room f (cut text) (λ line rest q ws r g. let m = ended-length text line rest q in no_rows n s (h ++ ws) rest (omega arith) few r g)
 
 -- before the history
-names-malformed : (s : Sampler) (line : List ℕ) → (leb (slots_of s) 20 && same_bytes line (history_names (slots_of s))) ≡ false → step_of (at Stage.HistoryNames s []) line ≡ ends 14 (at Stage.HistoryNames s [])
+names-malformed : (s : Sampler) (line : List ℕ) → (leb (slots_of s) 20 && same_bytes line (history_names (slots_of s))) ≡ false → step_of (at Stage.HistoryNames s []) line ≡ ends Refusal.Text (at Stage.HistoryNames s [])
 unfolding step_of
 names-malformed s line e = rw e
 
@@ -192,7 +193,7 @@ unfolding NoRows
 no_names s text few f = go (cut text)
   where
     judged : (line rest : List ℕ) → plain line ≡ true → text ≡ ended line ++ rest → (x : Bool) → (leb (slots_of s) 20 && same_bytes line (history_names (slots_of s))) ≡ x → read_of (at Stage.HistoryNames s []) [] text ≡ line14
-    judged line rest p q false e = ap (read_of (at Stage.HistoryNames s []) []) q ∙ last_line (at Stage.HistoryNames s []) line rest 14 p (names-malformed s line e)
+    judged line rest p q false e = ap (read_of (at Stage.HistoryNames s []) []) q ∙ last_line (at Stage.HistoryNames s []) line rest Refusal.Text p (names-malformed s line e)
     judged line rest p q true e =
         let l = same-equal line (history_names (slots_of s)) (both (leb (slots_of s) 20) (same_bytes line (history_names (slots_of s))) e).1 in
         let t : text ≡ ended (history_names (slots_of s)) ++ rest = q ∙ ap (λ (x : List ℕ). ended x ++ rest) l in
@@ -203,7 +204,7 @@ no_names s text few f = go (cut text)
     go (no_line p) = read-rest (at Stage.HistoryNames s []) [] text p ∙ names-unfinished s text
     go (a-line line rest p q) = judged line rest p q _ refl
 
-settings-malformed : (line : List ℕ) → is_words 5 line ≡ false → step_of (at Stage.Settings no_sampler []) line ≡ ends 14 (at Stage.Settings no_sampler [])
+settings-malformed : (line : List ℕ) → is_words 5 line ≡ false → step_of (at Stage.Settings no_sampler []) line ≡ ends Refusal.Text (at Stage.Settings no_sampler [])
 unfolding step_of settings_line
 settings-malformed line e = rw e
 
@@ -226,14 +227,14 @@ no-settings text g f = go (cut text)
         ∙ no_names (fresh_of (settings_of ws)) rest (few-slots (settings_of ws) e) (λ rows more u r z. f ws rows more w e u r (t ∙ ap (λ (x : List ℕ). ended (line_of ws) ++ x) z))
 
     judged : (line rest : List ℕ) → plain line ≡ true → text ≡ ended line ++ rest → (x : Bool) → is_words 5 line ≡ x → read_of (at Stage.Settings no_sampler []) [] text ≡ line14
-    judged line rest p q false e = ap (read_of (at Stage.Settings no_sampler []) []) q ∙ last_line (at Stage.Settings no_sampler []) line rest 14 p (settings-malformed line e)
+    judged line rest p q false e = ap (read_of (at Stage.Settings no_sampler []) []) q ∙ last_line (at Stage.Settings no_sampler []) line rest Refusal.Text p (settings-malformed line e)
     judged line rest p q true e = let b = words-read-back 5 line (omega arith) e in made line rest b.0 (q ∙ ap (λ (x : List ℕ). ended x ++ rest) b.1) _ refl
 
     go : Cut text → read_of (at Stage.Settings no_sampler []) [] text ≡ line14
     go (no_line p) = read-rest (at Stage.Settings no_sampler []) [] text p ∙ settings-unfinished text
     go (a-line line rest p q) = judged line rest p q (is_words 5 line) refl
 
-first-malformed : (line : List ℕ) → same_bytes line settings_names ≡ false → step_of (at Stage.SettingsNames no_sampler []) line ≡ ends 14 (at Stage.SettingsNames no_sampler [])
+first-malformed : (line : List ℕ) → same_bytes line settings_names ≡ false → step_of (at Stage.SettingsNames no_sampler []) line ≡ ends Refusal.Text (at Stage.SettingsNames no_sampler [])
 unfolding step_of
 first-malformed line e = rw e
 
@@ -249,7 +250,7 @@ unfolding written_of start_of text_of lines_of Table
 before text f g = ap (λ (l : List ℕ). ended answer_names ++ l) (go (cut text))
   where
     judged : (line rest : List ℕ) → plain line ≡ true → text ≡ ended line ++ rest → (x : Bool) → same_bytes line settings_names ≡ x → read_of start_of [] text ≡ line14
-    judged line rest p q false e = ap (read_of start_of []) q ∙ last_line start_of line rest 14 p (first-malformed line e)
+    judged line rest p q false e = ap (read_of start_of []) q ∙ last_line start_of line rest Refusal.Text p (first-malformed line e)
     judged line rest p q true e =
         let t : text ≡ ended settings_names ++ rest = q ∙ ap (λ (x : List ℕ). ended x ++ rest) (same-equal line settings_names e) in
         ap (read_of start_of []) t ∙ read-settings-names no_sampler [] rest
