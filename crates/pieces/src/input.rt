@@ -1,13 +1,16 @@
 // Standard input, line by line, by a buffer of fixed size.
 ghost use Rattle.std.specs.Prelude.{◌≡◌, ◌≤◌, length, IfSome};
+ghost use Rattle.std.specs.ControlFlow.{continue_value};
+
+use std::ops::ControlFlow;
 
 /// What takes the lines of an input, without their newlines.
 pub trait Lines {
-    /// A whole line. Whether to read on.
-    fn line(&mut self, line: &[u8]) -> bool;
+    /// A whole line. `Break` where no more is to be read.
+    fn line(&mut self, line: &[u8]) -> ControlFlow<()>;
 
-    /// The start of a line that is too long to be held. Whether to read on: then its end comes as a line.
-    fn long_line(&mut self, start: &[u8]) -> bool;
+    /// The start of a line that is too long to be held. Where more is read, its end comes as a line.
+    fn long_line(&mut self, start: &[u8]) -> ControlFlow<()>;
 
     /// The end of the input, with what stands after its last newline.
     fn end(&mut self, rest: &[u8]);
@@ -16,18 +19,16 @@ pub trait Lines {
     fn failed(&mut self, rest: &[u8]);
 }
 
-// Every whole line of these bytes. How many bytes are left, or none where no more is to be read.
-fn whole_lines<T: Lines>(bytes: &[u8], to: &mut T) -> Option<usize>
-    ensures { IfSome result (λ left. left ≤ length bytes.now) }
+// Every whole line of these bytes. How many bytes are left.
+fn whole_lines<T: Lines>(bytes: &[u8], to: &mut T) -> ControlFlow<(), usize>
+    ensures { IfSome (continue_value result) (λ left. left ≤ length bytes.now) }
 {
     let mut rest = bytes;
     while let Some(end) = rest.iter().position(|b| *b == b'\n') {
-        if !to.line(&rest[..end]) {
-            return None;
-        }
+        to.line(&rest[..end])?;
         rest = &rest[end + 1..];
     }
-    Some(rest.len())
+    ControlFlow::Continue(rest.len())
 }
 
 /// How many bytes to ask for: what a buffer has room for, and no more than the input has left.
@@ -59,14 +60,12 @@ impl Input {
         }
     }
 
-    // The lines of the first `full` bytes; the bytes left are held, unless they are too many. Whether to read on.
-    fn lines<T: Lines>(&mut self, to: &mut T, full: usize) -> bool
+    // The lines of the first `full` bytes; the bytes left are held, unless they are too many.
+    fn lines<T: Lines>(&mut self, to: &mut T, full: usize) -> ControlFlow<()>
         requires { full ≤ 65536 }
         ensures { self.new.left ≡ self.old.left }
     {
-        let Some(have) = whole_lines(&self.buffer[..full], to) else {
-            return false;
-        };
+        let have = whole_lines(&self.buffer[..full], to)?;
         let start = full - have;
         if have > self.longest || have == self.buffer.len() {
             self.have = 0;
@@ -74,11 +73,11 @@ impl Input {
         }
         crate::keep(&mut self.buffer, start, full);
         self.have = have;
-        true
+        ControlFlow::Continue(())
     }
 
-    // One read, with the lines that it completes, or the end of the input. Whether to read on.
-    fn turn<T: Lines>(&mut self, rt: HostRuntime, to: &mut T) -> bool
+    // One read, with the lines that it completes, or the end of the input.
+    fn turn<T: Lines>(&mut self, rt: HostRuntime, to: &mut T) -> ControlFlow<()>
         ensures { self.new.left ≤ self.old.left }
     {
         let end = self.have + asked(self.buffer.len() - self.have, self.left);
@@ -90,7 +89,7 @@ impl Input {
             }
             None => to.failed(&self.buffer[..self.have]),
         }
-        false
+        ControlFlow::Break(())
     }
 
     // Reads the input to its end, or as far as its lines are taken.
@@ -99,7 +98,7 @@ impl Input {
         ensures { self.new.left ≤ self.old.left }
     {
         for _ in 0..u64::MAX {
-            if !self.turn(rt, to) {
+            if self.turn(rt, to).is_break() {
                 return;
             }
         }
