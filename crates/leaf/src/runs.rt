@@ -4,6 +4,7 @@
 ghost use Rattle.std.specs.Prelude.{◌+◌, ◌*◌, ◌≤◌, length, IfSome};
 
 use crate::reply::{Failure, Reply, Results, Written, accepted};
+use refusal::Refusal;
 use sampler_laws::Sampled;
 use sampler_state::Sampler;
 use settings::Settings;
@@ -85,6 +86,6 @@ pub(crate) fn run(args: &[u64], results: &mut Results) -> Reply {
         seed: *seed,
         slots: *slots,
     });
-    accepted(m.number)?;
+    accepted(m.number, Refusal::Settings)?;
     calls(m.sampler, words, results)
 }
