@@ -4,10 +4,11 @@ use Rattle.std.specs.Prelude.{Result, Ok, Err, Some}
 use mathlib.Core.Path.{◌≡◌, refl, sym, ap, ◌∙◌, subst}
 use mathlib.Core.Logic.{inl, inr}
 use Prim.Native.Nat.{ℕ, zero, suc, ◌+◌, ◌-◌, ◌*◌, ◌/◌, ◌^◌, ◌≤◌, ◌<◌, min}
-use native.Mathlib.Nat.{eq-zero-or-pos, le_trans, le_of_eq, lt_of_le_of_lt, lt_of_lt_of_le, le_of_lt, mul-one, one-mul, mul_assoc, mul_comm, mul_left_comm, mul-le-mul, mul-le-mul_right, mul-pos, suc-mul, zero-lt-suc, le_of_suc-le-suc, div-lt_iff_lt-mul, div-le_of_le-mul}
+use native.Mathlib.Nat.{le_trans, le_of_eq, lt_of_le_of_lt, lt_of_lt_of_le, le_of_lt, mul-one, one-mul, mul_assoc, mul_comm, mul_left_comm, mul-le-mul, mul-le-mul_right, mul-pos, suc-mul, zero-lt-suc, le_of_suc-le-suc, div-lt_iff_lt-mul, div-le_of_le-mul}
 use native.Mathlib.Omega.{arith}
 use mathlib.Core.Bool.{Bool, true, false, ◌&&◌, cond}
-use lib.Dec.{T, ltb, ltb→lt, lt→ltb, leb→le, lit<}
+use borrow.Author.Tests.{eqb-false}
+use lib.Dec.{T, eqb, ltb, ltb→lt, lt→ltb, leb→le, lit<}
 use lib.Pow.{pow-add, pow_pos, pow-lt}
 use lib.IntN.{ℤ, pos, negsuc, neg_ℤ, nat_abs, ◌+ℤ◌, ◌*ℤ◌}
 use lib.Signed.{le_z}
@@ -27,9 +28,10 @@ use Rattle.arith.proofs.Within.{bound, widen, cross, abs-round, div-within, add-
 use Rattle.arith.proofs.Held.{held}
 use Rattle.exponential.proofs.ExpLaws.{exp-decoded, exp-drawn}
 use Rattle.arith.proofs.Back.{back-linear, back-log}
-use Rattle.rng_util.specs.Draws.{unit_of, unit_draw_of}
+use Rattle.refusal.specs.declared.Refusal.TheVariants.{OutOfDomain}
+use Rattle.rng_util.specs.Draws.{unit_of, read_by, word_draw_of, unit_draw_of}
 use Rattle.rng_util.specs.Generator.{next_of}
-use Rattle.rng_util.proofs.Nonzero.{nonzero-test, next-nonzero}
+use Rattle.rng_util.proofs.Nonzero.{Nonzero, next-nonzero}
 use Rattle.rng_util.proofs.Unit as unit
 use Rattle.distribution.specs.declared.IntDistribution.{IntDistribution}
 use Rattle.distribution.specs.declared.Distribution.{Distribution}
@@ -282,15 +284,18 @@ log-steps d u t l b =
     let v = log-drawn (Distribution.Int d) tt tt (unfold shape_of in t) l u b in
     subst (OutcomeFits d) (sym v.is) (steps-fit d v.value t (widen (power (pos 53)) (power (pos 57)) v.value (unfold le in tt) v.size))
 
--- a unit float is from 0 to 1, that of a refused draw too
-pub unit-between : (w : ℕ) → w < 2 ^ 64 → Between (of_bits binary64 0) one (unit_draw_of w).value
-unfolding unit_draw_of
-unit-between w h = elim (eq-zero-or-pos w) [
-  | inl z ↦ rw z (unfold of_bits of_int le in (tt, tt))
-  | inr p ↦
-      let n = (next-nonzero w (p, h)).1 in
-      rw (nonzero-test w (p, h)) (unit.unit-nonnegative (next_of w) n, order.le_of_lt (unit_of (next_of w)) one (unit.unit-below-one (next_of w) n))
-]
+-- a unit float is from 0 to 1
+pub unit-between : (w : ℕ) → Nonzero w → Between (of_bits binary64 0) one (unit_of (next_of w))
+unit-between w h =
+    let n = (next-nonzero w h).1 in
+    (unit.unit-nonnegative (next_of w) n, order.le_of_lt (unit_of (next_of w)) one (unit.unit-below-one (next_of w) n))
 
 pub log-fits : (w : ℕ) (d : IntDistribution) → w < 2 ^ 64 → T (int_shape d) → d.log_scale ≡ true → LogFits w d
-log-fits w d h t l = log-steps d (unit_draw_of w).value t l (unit-between w h)
+log-fits w d h t l r e = log-steps d r.value t l (go (eqb w 0) refl (unfold unit_draw_of word_draw_of in e))
+  where
+    go : (b : Bool) → eqb w 0 ≡ b → read_by unit_of (cond b (Err OutOfDomain) (Ok (record { value = next_of w; drawn = 1; next = next_of w }))) ≡ Ok r → Between (of_bits binary64 0) one r.value
+    go true n q = absurd (cc)
+    go false n q =
+        let v : unit_of (next_of w) ≡ r.value = cc in
+        let z = eqb-false w 0 n in
+        subst (Between (of_bits binary64 0) one) v (unit-between w (omega arith, h))

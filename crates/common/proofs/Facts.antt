@@ -1,6 +1,9 @@
 -- What the codings give, over their definitions. A random value is accepted, takes one word and obeys the Taken rule; a unit float scaled to the ends decodes to a value from low to high; a taken value is encoded, and its normalised form is at most 1e32 in size.
-use Rattle.std.specs.Prelude.{Ok, Some}
-use mathlib.Core.Path.{◌≡◌, refl, ap, ◌∙◌, subst}
+use Rattle.std.specs.Prelude.{Result, Ok, Some}
+use Rattle.refusal.specs.declared.Refusal.{Refusal}
+use Rattle.arith.specs.Outcome.{made}
+use Rattle.rng_util.specs.declared.Draw.{Draw}
+use mathlib.Core.Path.{◌≡◌, ap, ◌∙◌, subst}
 use Prim.Native.Nat.{ℕ, ◌+◌, ◌-◌, ◌*◌, ◌/◌, ◌^◌, ◌≤◌, ◌<◌}
 use native.Mathlib.Nat.{le_trans, mul-le-mul_right, div-mul-le_self, div-le_self, mod-eq_of_lt}
 use native.Mathlib.Omega.{arith}
@@ -18,7 +21,7 @@ use Rattle.arith.proofs.Order as order
 use Rattle.arith.proofs.Within.{bound, sub_in, div-in, widen, within-finite}
 use Rattle.logarithm.proofs.LnLaws.{ln-taken}
 use Rattle.rng_util.specs.Generator.{next_of}
-use Rattle.rng_util.specs.Draws.{range_ok, whole_of, unit_draw_of, whole_draw_of}
+use Rattle.rng_util.specs.Draws.{range_ok, unit_of, whole_of, read_by, word_draw_of, unit_draw_of, whole_draw_of}
 use Rattle.rng_util.proofs.Nonzero.{Nonzero, nonzero-test}
 use Rattle.rng_util.proofs.Whole as whole
 use Rattle.distribution.specs.declared.FloatDistribution.{FloatDistribution}
@@ -30,11 +33,10 @@ use Rattle.distribution.specs.Shape.{power, float_shape, int_shape, shape_of, co
 use Rattle.distribution.specs.Taken.{taken_of}
 use Rattle.distribution.proofs.Facts.{float-rules, int-rules, categorical-rules, float-taken, int-taken}
 use Rattle.encoding.specs.Bounds.{scale_of, ends_of, bounds_of}
-use Rattle.common.specs.declared.RandomDraw.{RandomDraw}
 use Rattle.common.specs.Decode.{one, inside, float_of, int_of, decoded_of, from_internal_of}
 use Rattle.encoding.specs.Encode.{to_internal_of}
 use Rattle.common.specs.Grid.{clamp_of, float_grid, clamp_z, int_grid}
-use Rattle.common.specs.Random.{settled, from_unit, from_whole, range_of, log_range, log_float, log_float_random, stepped_float_random, linear_float_random, float_random, log_int_random, stepped_int_random, linear_int_random, int_random, categorical_random, random_of, sample_random_of}
+use Rattle.common.specs.Random.{drawing, range_of, log_range, log_float, log_float_random, stepped_float_random, linear_float_random, float_random, log_int_random, stepped_int_random, linear_int_random, int_random, categorical_random, random_of, sample_random_of}
 use Rattle.encoding.proofs.EndLaws.{FloatFits, FloatsFit, on_log_scale, limit, EndRules, Scalable, scaled, looser, whole-scalable, end-rules, has-ends}
 use Rattle.common.proofs.Domain.{linear-range, unscaled, unit-between, log-drawn}
 use Rattle.common.proofs.Clamp.{clamp-between, clamp-whole, float-grid-real, take-float, float-inside, int-inside}
@@ -48,15 +50,12 @@ abbrev pub Inside : Distribution → ParamValue → Type 0
 Inside (Distribution.Float d) (ParamValue.Float v) = Between d.low d.high v
 Inside (Distribution.Float d) (ParamValue.Int z) = ⊥
 Inside (Distribution.Float d) (ParamValue.Categorical i) = ⊥
-Inside (Distribution.Float d) (ParamValue.Refused n) = ⊥
 Inside (Distribution.Int d) (ParamValue.Float v) = ⊥
 Inside (Distribution.Int d) (ParamValue.Int z) = T (le_z d.low z) × T (le_z z d.high)
 Inside (Distribution.Int d) (ParamValue.Categorical i) = ⊥
-Inside (Distribution.Int d) (ParamValue.Refused n) = ⊥
 Inside (Distribution.Categorical d) (ParamValue.Float v) = ⊥
 Inside (Distribution.Categorical d) (ParamValue.Int z) = ⊥
 Inside (Distribution.Categorical d) (ParamValue.Categorical i) = i < d.n_choices
-Inside (Distribution.Categorical d) (ParamValue.Refused n) = ⊥
 
 -- the same of an int and a choice; a float that is drawn may lie outside
 abbrev pub Ranged : Distribution → ParamValue → Type 0
@@ -72,7 +71,7 @@ clamped d v t w = clamp-between d.low d.high (float_grid d v) (float-grid-real d
 
 pub record Decoded (x : Float) (d : Distribution) : Type 0 where
   pub value : ParamValue
-  pub is : from_internal_of x d ≡ value
+  pub is : from_internal_of x d ≡ Ok value
   pub taken : T (taken_of d value)
   pub range : Inside d value
 
@@ -86,7 +85,7 @@ decode-accepted (Distribution.Float d) f t lo hi e u b =
     let c = clamped d s.value (unfold shape_of in t) s.size in
     record {
       value = ParamValue.Float (clamp_of d.low d.high (float_grid d s.value));
-      is = from-internal (range_of lo hi u) (Distribution.Float d) lo hi e s.accepted ∙ (unfold decoded_of in ap (float_of d) s.is);
+      is = from-internal (range_of lo hi u) (Distribution.Float d) lo hi e s.accepted ∙ (unfold decoded_of in ap (made (float_of d)) s.is);
       taken = float-inside d (clamp_of d.low d.high (float_grid d s.value)) (unfold shape_of in t) c;
       range = c;
     }
@@ -96,7 +95,7 @@ decode-accepted (Distribution.Int d) f t lo hi e u b =
     let c = clamp-whole d.low d.high (int_grid d s.value) (int-rules d (unfold shape_of in t)).order in
     record {
       value = ParamValue.Int z;
-      is = from-internal (range_of lo hi u) (Distribution.Int d) lo hi e s.accepted ∙ (unfold decoded_of in ap (int_of d) s.is);
+      is = from-internal (range_of lo hi u) (Distribution.Int d) lo hi e s.accepted ∙ (unfold decoded_of in ap (made (int_of d)) s.is);
       taken = int-inside d z (unfold shape_of in t) c.0 c.1;
       range = c;
     }
@@ -105,38 +104,25 @@ decode-accepted (Distribution.Categorical d) f t lo hi e u b = absurd (has-ends 
 -- ---- a random value
 
 -- r draws one word for a value that is taken
-pub record Drawn (w : ℕ) (d : Distribution) (r : RandomDraw) : Type 0 where
+pub record Drawn (w : ℕ) (d : Distribution) (r : Result (Draw ParamValue) Refusal) : Type 0 where
   pub value : ParamValue
-  pub is : r ≡ record { value = value; drawn = 1; next = next_of w }
+  pub is : r ≡ Ok (record { value = value; drawn = 1; next = next_of w })
   pub taken : T (taken_of d value)
   pub range : Ranged d value
 
--- a taken value is no refusal
-settles : (w n next : ℕ) (d : Distribution) (v : ParamValue) → T (taken_of d v) → settled w n next v ≡ record { value = v; drawn = n; next = next }
-unfolding taken_of
-settles w n next d (ParamValue.Float v) t = refl
-settles w n next d (ParamValue.Int v) t = refl
-settles w n next d (ParamValue.Categorical v) t = refl
-settles w n next (Distribution.Float d) (ParamValue.Refused v) t = absurd t
-settles w n next (Distribution.Int d) (ParamValue.Refused v) t = absurd t
-settles w n next (Distribution.Categorical d) (ParamValue.Refused v) t = absurd t
-
 module _ (w : ℕ) (h : Nonzero w) (d : Distribution) where
-  unit-drawn : (f : Float → ParamValue) → T (taken_of d (f (unit_draw_of w).value)) → Ranged d (f (unit_draw_of w).value) → Drawn w d (from_unit w f)
-  unit-drawn f t r = record { value = f (unit_draw_of w).value; is = is ∙ settles w 1 (next_of w) d (f (unit_draw_of w).value) t; taken = t; range = r }
-    where
-      is : from_unit w f ≡ settled w 1 (next_of w) (f (unit_draw_of w).value)
-      is = unfold from_unit unit_draw_of in rw (nonzero-test w h)
+  -- a value made of the unit float
+  unit-drawn : (f : Float → Result ParamValue Refusal) (v : ParamValue) → f (unit_of (next_of w)) ≡ Ok v → T (taken_of d v) → Ranged d v → Drawn w d (drawing f (unit_draw_of w))
+  unfolding word_draw_of unit_draw_of
+  unit-drawn f v e t r = record { value = v; is = rw (nonzero-test w h, e); taken = t; range = r }
 
-  -- a draw from a to b, and a number that is drawn there
-  whole-drawn : (a b : ℤ) (f : ℤ → ParamValue) → T (range_ok a b) → ((k : ℤ) → whole.Between a b k → T (taken_of d (f k)) × Ranged d (f k)) → Drawn w d (from_whole w a b f)
+  -- a value that is read from a draw from a to b, and a number that is drawn there
+  whole-drawn : (a b : ℤ) (f : ℤ → ParamValue) → T (range_ok a b) → ((k : ℤ) → whole.Between a b k → T (taken_of d (f k)) × Ranged d (f k)) → Drawn w d (read_by f (whole_draw_of w a b))
+  unfolding word_draw_of whole_draw_of
   whole-drawn a b f o g =
       let k = whole_of a b (next_of w) in
       let r = g k (whole.whole-between a b o (next_of w)) in
-      record { value = f k; is = is ∙ settles w 1 (next_of w) d (f k) r.0; taken = r.0; range = r.1 }
-    where
-      is : from_whole w a b f ≡ settled w 1 (next_of w) (f (whole_of a b (next_of w)))
-      is = unfold from_whole whole_draw_of in rw (nonzero-test w h, is_true (range_ok a b) o)
+      record { value = f k; is = rw (is_true (range_ok a b) o, nonzero-test w h); taken = r.0; range = r.1 }
 
 -- j steps of n from low, where they are at most high - low
 steps-between : (low high : ℤ) (o : T (range_ok low high)) (n j : ℕ) → j * n ≤ (whole.difference low high o).size → whole.Between low high (low +ℤ pos j *ℤ pos n)
@@ -145,8 +131,11 @@ steps-between low high o n j h =
     (whole.whole-between low high o (j * n))
 
 module _ (w : ℕ) (h : Nonzero w) where
-  unit : Between (of_bits binary64 0) one (unit_draw_of w).value
-  unit = unit-between w h.1
+  abbrev u : Float
+  u = unit_of (next_of w)
+
+  unit : Between (of_bits binary64 0) one u
+  unit = unit-between w h
 
   -- ---- floats
   module _ (d : FloatDistribution) (f : FloatFits d) (t : T (float_shape d)) where
@@ -156,10 +145,10 @@ module _ (w : ℕ) (h : Nonzero w) where
     log-float : T d.log_scale → Drawn w D (log_float_random w d)
     unfolding log_float_random
     log-float l =
-        let v = log-drawn D tt f (unfold shape_of in t) (is_true d.log_scale l) (unit_draw_of w).value unit in
-        unit-drawn w h D (λ u. log_float d (log_range (ends_of D) u)) (rw v.is (go v.value v.size v.least)) tt
+        let v = log-drawn D tt f (unfold shape_of in t) (is_true d.log_scale l) u unit in
+        unit-drawn w h D (λ u. made (log_float d) (log_range (ends_of D) u)) (log_float d v.value) (rw v.is) (go v.value v.size v.least) tt
       where
-        go : (v : Float) → Within (power (pos 53)) v → T (le (power (negsuc 52)) v) → T (taken_of D (log_float d (Ok v)))
+        go : (v : Float) → Within (power (pos 53)) v → T (le (power (negsuc 52)) v) → T (taken_of D (log_float d v))
         go v s g = pick d.stepped (clamp_of d.low d.high (float_grid d v)) v (float-inside d (clamp_of d.low d.high (float_grid d v)) t (clamped d v t s)) (take-float d v s (λ _. g))
           where
             pick : (b : Bool) (x y : Float) → T (taken_of D (ParamValue.Float x)) → T (taken_of D (ParamValue.Float y)) → T (taken_of D (ParamValue.Float (cond b x y)))
@@ -175,11 +164,11 @@ module _ (w : ℕ) (h : Nonzero w) where
         (λ k b. let j = up_to n.number k b in (rw j.is (take-float d _ (n.size j.number j.most) (λ p. absurd (T_not d.log_scale l p))), tt)))
 
     linear-float : T (not d.log_scale) → Drawn w D (linear_float_random w d.low d.high)
-    unfolding linear_float_random
+    unfolding linear_float_random word_draw_of unit_draw_of
     linear-float l =
         let r = float-rules d t in
-        let v = linear-range d.low d.high (unit_draw_of w).value (record { low = r.low; high = r.high; order = r.order; low_fits = f.low; high_fits = f.high }) unit in
-        unit-drawn w h D (λ u. ParamValue.Float (range_of d.low d.high u)) (take-float d (range_of d.low d.high (unit_draw_of w).value) v.1 (λ p. absurd (T_not d.log_scale l p))) tt
+        let v = linear-range d.low d.high u (record { low = r.low; high = r.high; order = r.order; low_fits = f.low; high_fits = f.high }) unit in
+        record { value = ParamValue.Float (range_of d.low d.high u); is = rw (nonzero-test w h); taken = take-float d (range_of d.low d.high u) v.1 (λ p. absurd (T_not d.log_scale l p)); range = tt }
 
     float-drawn : Drawn w D (float_random w d)
     unfolding float_random
@@ -200,9 +189,9 @@ module _ (w : ℕ) (h : Nonzero w) where
     log-int : T d.log_scale → Drawn w Z (log_int_random w d)
     unfolding log_int_random
     log-int l =
-        let v = log-drawn Z tt tt (unfold shape_of in t) (is_true d.log_scale l) (unit_draw_of w).value unit in
+        let v = log-drawn Z tt tt (unfold shape_of in t) (is_true d.log_scale l) u unit in
         let b = held (clamp_z d.low d.high (int_grid d v.value)) (clamp-whole d.low d.high (int_grid d v.value) (int-rules d t).order) in
-        unit-drawn w h Z (λ u. int_of d (log_range (ends_of Z) u)) (rw v.is b.0) (rw v.is b.1)
+        unit-drawn w h Z (λ u. made (int_of d) (log_range (ends_of Z) u)) (int_of d v.value) (rw v.is) b.0 b.1
 
     stepped-int : T d.stepped → Drawn w Z (stepped_int_random w d.low d.high d.step)
     unfolding stepped_int_random
@@ -214,7 +203,7 @@ module _ (w : ℕ) (h : Nonzero w) where
         span_small : span ≤ 2 ^ 53
         span_small = let r = int-rules d t in let a = r.low.magnitude in let b = r.high.magnitude in omega (arith, (whole.difference d.low d.high ok).small)
 
-        go : (z : ℤ) → T (le_z (pos 1) z) → Drawn w Z (from_whole w (pos 0) (quot_z (d.high -ℤ d.low) z) (λ k. ParamValue.Int (d.low +ℤ k *ℤ z)))
+        go : (z : ℤ) → T (le_z (pos 1) z) → Drawn w Z (read_by (λ k. ParamValue.Int (d.low +ℤ k *ℤ z)) (whole_draw_of w (pos 0) (quot_z (d.high -ℤ d.low) z)))
         go (negsuc n) l = absurd l
         go (pos n) l =
             rw (whole.difference d.low d.high ok).is
@@ -255,7 +244,6 @@ abbrev pub ValueFits : ParamValue → Type 0
 ValueFits (ParamValue.Float v) = T (fits binary64 v)
 ValueFits (ParamValue.Int z) = Unit
 ValueFits (ParamValue.Categorical i) = Unit
-ValueFits (ParamValue.Refused n) = Unit
 
 -- the largest value in the model's space: 37 on log scale, else 2 ^ 53
 abbrev pub encoded_limit : Bool → Float
@@ -282,10 +270,8 @@ encode-accepted (Distribution.Int d) (ParamValue.Int z) c f t k =
 encode-accepted (Distribution.Categorical d) v c f t k = absurd c
 encode-accepted (Distribution.Float d) (ParamValue.Int z) c f t k = absurd (unfold taken_of in k)
 encode-accepted (Distribution.Float d) (ParamValue.Categorical i) c f t k = absurd (unfold taken_of in k)
-encode-accepted (Distribution.Float d) (ParamValue.Refused n) c f t k = absurd (unfold taken_of in k)
 encode-accepted (Distribution.Int d) (ParamValue.Float v) c f t k = absurd (unfold taken_of in k)
 encode-accepted (Distribution.Int d) (ParamValue.Categorical i) c f t k = absurd (unfold taken_of in k)
-encode-accepted (Distribution.Int d) (ParamValue.Refused n) c f t k = absurd (unfold taken_of in k)
 
 -- ---- normalised, where the ends are 1e-15 or more apart
 

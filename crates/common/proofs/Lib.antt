@@ -1,6 +1,5 @@
 pub mod Clamp
 pub mod Domain
-pub mod Draws
 pub mod Facts
 pub mod FloatSteps
 pub mod Moves

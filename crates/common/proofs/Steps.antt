@@ -1,25 +1,28 @@
 -- The steps of an int drawn stay between its ends. Assumes nothing.
-use mathlib.Core.Path.{◌≡◌, refl, sym, ap, ◌∙◌, subst}
-use Prim.Native.Nat.{ℕ, ◌+◌, ◌*◌, ◌/◌, ◌^◌, ◌≤◌, ◌<◌, zero-le}
+use mathlib.Core.Path.{◌≡◌, refl, ap, ◌∙◌, subst}
+use Prim.Native.Nat.{ℕ, ◌+◌, ◌*◌, ◌/◌, ◌^◌, ◌≤◌, ◌<◌}
 use native.Mathlib.Nat.{le_trans, mul-le-mul_right, mod-eq_of_lt, div-mul-le_self, div-le_self}
 use native.Mathlib.Omega.{arith}
-use mathlib.Core.Bool.{Bool, true, false, not, ◌&&◌, ◌||◌, true≢false}
-use lib.Dec.{T, eqb, leb, leb→le, le→leb}
+use mathlib.Core.Bool.{◌&&◌}
+use lib.Dec.{T, leb, leb→le, le→leb}
 use lib.IntN.{ℤ, pos, negsuc, nat_abs, ◌+ℤ◌, ◌-ℤ◌, ◌*ℤ◌, pos-*ℤ-pos}
 use lib.Signed.{le_z, quot_z}
 use lib.Ieee.Fits.{and_i}
 use mir.Syntax.{w64}
 use mir.Val.{SFits}
-use Rattle.rng_util.specs.Generator.{next_of}
-use Rattle.rng_util.specs.Draws.{whole_draw_of, whole_of, range_ok}
-use Rattle.rng_util.proofs.Whole.{difference, difference-small, whole-fits, whole_is, whole-between, Between}
+use Rattle.std.specs.Prelude.{Ok}
+use Rattle.rng_util.specs.declared.Draw.{Draw}
+use Rattle.rng_util.specs.Draws.{whole_draw_of, range_ok}
+use Rattle.rng_util.proofs.Whole.{difference, difference-small, whole-fits, whole_is, whole-draw-between, Between}
+use mir.ValLaws.{to_z-of_z}
+use Rattle.distribution.proofs.Whole.{ReadBack}
 use Rattle.common.specs.RandomParts.{Stepped}
 
 pub in-range : (a b : ℤ) → nat_abs a ≤ 2 ^ 53 → nat_abs b ≤ 2 ^ 53 → T (le_z a b) → T (range_ok a b)
 unfolding range_ok
 in-range a b p q h = and_i (le_z a b && leb (nat_abs a) (2 ^ 53)) (leb (nat_abs b) (2 ^ 53)) (and_i (le_z a b) (leb (nat_abs a) (2 ^ 53)) h (le→leb (nat_abs a) (2 ^ 53) p)) (le→leb (nat_abs b) (2 ^ 53) q)
 
--- a number drawn from 0 to q, or the 0 of a refusal
+-- a number from 0 to q
 pub record UpTo (q : ℕ) (v : ℤ) : Type 0 where
   pub number : ℕ
   pub is : v ≡ pos number
@@ -29,23 +32,13 @@ pub up_to : (q : ℕ) (v : ℤ) → Between (pos 0) (pos q) v → UpTo q v
 up_to q (pos n) b = record { number = n; is = refl; most = leb→le n q b.1 }
 up_to q (negsuc n) b = absurd b.0
 
-pub drawn-up-to : (w q : ℕ) → UpTo q (whole_draw_of w (pos 0) (pos q)).value
-drawn-up-to w q = go (eqb w 0 || not (range_ok (pos 0) (pos q))) refl
-  where
-    none : UpTo q (pos 0)
-    none = record { number = 0; is = refl; most = zero-le }
+-- so is one that is drawn there
+pub drawn-up-to : (w q : ℕ) (d : Draw ℤ) → whole_draw_of w (pos 0) (pos q) ≡ Ok d → UpTo q d.value
+drawn-up-to w q d e = up_to q d.value (whole-draw-between w (pos 0) (pos q) d e)
 
-    accepted : (x y : Bool) → x || not y ≡ false → T y
-    accepted false true e = tt
-    accepted false false e = absurd (true≢false e)
-    accepted true y e = absurd (true≢false e)
-
-    go : (t : Bool) → eqb w 0 || not (range_ok (pos 0) (pos q)) ≡ t → UpTo q (whole_draw_of w (pos 0) (pos q)).value
-    go true e = let v : (whole_draw_of w (pos 0) (pos q)).value ≡ pos 0 = unfold whole_draw_of in rw e in subst (UpTo q) (sym v) none
-    go false e =
-        let v : (whole_draw_of w (pos 0) (pos q)).value ≡ whole_of (pos 0) (pos q) (next_of w) = unfold whole_draw_of in rw e in
-        let b = whole-between (pos 0) (pos q) (accepted (eqb w 0) (range_ok (pos 0) (pos q)) e) (next_of w) in
-        subst (UpTo q) (sym v) (up_to q (whole_of (pos 0) (pos q) (next_of w)) b)
+-- and it is read as it was stored
+pub read-back : (q : ℕ) (v : ℤ) → UpTo q v → q < 2 ^ 63 → ReadBack v
+read-back q v u l = to_z-of_z w64 v (rw u.is (record { sfits = omega (arith, u.most) }))
 
 module _ (low high step : ℤ) (s : Stepped low high step) where
   ok : T (range_ok low high)
@@ -84,6 +77,10 @@ module _ (low high step : ℤ) (s : Stepped low high step) where
   pub steps-fit : SFits w64 (pos steps)
   unfolding steps
   steps-fit = record { sfits = omega (arith, div-le_self span step_is.0, span_small) }
+
+  pub steps-small : steps < 2 ^ 63
+  unfolding steps
+  steps-small = omega (arith, div-le_self span step_is.0, span_small)
 
   pub span_fits : SFits w64 (pos span)
   span_fits = record { sfits = omega (arith, span_small) }

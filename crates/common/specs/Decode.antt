@@ -1,11 +1,11 @@
 -- `from_internal` of common.rs: a value of the model's space as a parameter's value. "Decode accepts finite values from lo − 1 to hi + 1 (internal bounds), else 11." Definitions only.
 use Rattle.refusal.specs.declared.Refusal.{Refusal}
-use Rattle.refusal.specs.Numbers.{cause_number}
+use Rattle.refusal.specs.declared.Refusal.TheVariants.{OutOfDomain}
 use Rattle.std.specs.Prelude.{Bool, false, ◌&&◌, cond, pos, Float, Result, Ok, Err, Some, None}
 use Rattle.std.specs.Float.{binary64}
 use Rattle.std.specs.Float.Ieee.{add, sub, le, of_int}
 use Rattle.exponential.specs.Exp.{exp_of}
-use Rattle.arith.specs.Outcome.{pick}
+use Rattle.arith.specs.Outcome.{pick, made}
 use Rattle.distribution.specs.declared.FloatDistribution.{FloatDistribution}
 use Rattle.distribution.specs.declared.IntDistribution.{IntDistribution}
 use Rattle.distribution.specs.declared.Distribution.{Distribution}
@@ -17,19 +17,18 @@ use Rattle.common.specs.Grid.{clamp_of, float_grid, clamp_z, int_grid}
 abbrev pub unscale_of : Bool → Float → Result Float Refusal
 unscale_of log x = pick log (exp_of x) (Ok x)
 
-abbrev pub float_of : FloatDistribution → Result Float Refusal → ParamValue
-float_of d (Ok v) = ParamValue.Float (clamp_of d.low d.high (float_grid d v))
-float_of d (Err r) = ParamValue.Refused (cause_number r)
+-- what is on the grid and between the ends
+abbrev pub float_of : FloatDistribution → Float → ParamValue
+float_of d v = ParamValue.Float (clamp_of d.low d.high (float_grid d v))
 
-abbrev pub int_of : IntDistribution → Result Float Refusal → ParamValue
-int_of d (Ok v) = ParamValue.Int (clamp_z d.low d.high (int_grid d v))
-int_of d (Err r) = ParamValue.Refused (cause_number r)
+abbrev pub int_of : IntDistribution → Float → ParamValue
+int_of d v = ParamValue.Int (clamp_z d.low d.high (int_grid d v))
 
 -- a choice has no decoding: the Rust's `unreachable!` is 11
-unfoldable pub decoded_of : Float → Distribution → ParamValue
-decoded_of x (Distribution.Float d) = float_of d (unscale_of d.log_scale x)
-decoded_of x (Distribution.Int d) = int_of d (unscale_of d.log_scale x)
-decoded_of x (Distribution.Categorical d) = ParamValue.Refused 11
+unfoldable pub decoded_of : Float → Distribution → Result ParamValue Refusal
+decoded_of x (Distribution.Float d) = made (float_of d) (unscale_of d.log_scale x)
+decoded_of x (Distribution.Int d) = made (int_of d) (unscale_of d.log_scale x)
+decoded_of x (Distribution.Categorical d) = Err OutOfDomain
 
 abbrev pub one : Float
 one = of_int binary64 (pos 1)
@@ -39,6 +38,6 @@ inside (Ok (Some (lo, hi))) x = le (sub binary64 lo one) x && le x (add binary64
 inside (Ok None) x = false
 inside (Err r) x = false
 
-unfoldable pub from_internal_of : Float → Distribution → ParamValue
+unfoldable pub from_internal_of : Float → Distribution → Result ParamValue Refusal
 unfolding decoded_of
-from_internal_of x d = cond (inside (bounds_of d) x) (decoded_of x d) (ParamValue.Refused 11)
+from_internal_of x d = cond (inside (bounds_of d) x) (decoded_of x d) (Err OutOfDomain)

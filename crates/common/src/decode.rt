@@ -2,7 +2,7 @@
 ghost use Rattle.std.specs.Prelude.{◌≡◌, Ok};
 ghost use Rattle.common.specs.Decode.{unscale_of, inside, float_of, int_of, decoded_of, from_internal_of};
 ghost use Rattle.common.specs.DecodeParts.{Decodable};
-ghost use Rattle.common.specs.GridParts.{OutcomeFits};
+ghost use Rattle.common.specs.GridParts.{StepFits};
 
 use crate::grid::{clamp, float_grid, int_clamp, int_grid};
 use distribution::{Distribution, FloatDistribution, IntDistribution, ParamValue};
@@ -40,43 +40,38 @@ fn is_inside(b: InternalBounds, x: f64) -> bool
     }
 }
 
-fn float_decoded(d: FloatDistribution, o: Result<f64, Refusal>) -> ParamValue
-    ensures { result ≡ float_of d o }
+fn float_decoded(d: FloatDistribution, v: f64) -> ParamValue
+    ensures { result ≡ float_of d v }
 {
-    match o {
-        Ok(v) => ParamValue::Float(clamp(d.low, d.high, float_grid(d, v))),
-        Err(refusal) => ParamValue::Refused(refusal.number()),
-    }
+    ParamValue::Float(clamp(d.low, d.high, float_grid(d, v)))
 }
 
-pub(crate) fn int_decoded(d: IntDistribution, o: Result<f64, Refusal>) -> ParamValue
-    requires { OutcomeFits d o }
-    ensures { result ≡ int_of d o }
+pub(crate) fn int_decoded(d: IntDistribution, v: f64) -> ParamValue
+    requires { StepFits d v }
+    ensures { result ≡ int_of d v }
 {
-    match o {
-        Ok(v) => ParamValue::Int(int_clamp(d.low, d.high, int_grid(d, v))),
-        Err(refusal) => ParamValue::Refused(refusal.number()),
-    }
+    ParamValue::Int(int_clamp(d.low, d.high, int_grid(d, v)))
 }
 
 // The decoding of an x that is inside.
-fn decoded(x: f64, d: Distribution) -> ParamValue
+#[tactic(auto, unfolding(crate::specs::Decode::decoded_of))]
+fn decoded(x: f64, d: Distribution) -> Result<ParamValue, Refusal>
     requires { Decodable x d }
     ensures { result ≡ decoded_of x d }
 {
     match d {
-        Distribution::Float(f) => float_decoded(f, unscale(f.log_scale, x)),
-        Distribution::Int(i) => int_decoded(i, unscale(i.log_scale, x)),
-        Distribution::Categorical(_) => ParamValue::Refused(11),
+        Distribution::Float(f) => Ok(float_decoded(f, unscale(f.log_scale, x)?)),
+        Distribution::Int(i) => Ok(int_decoded(i, unscale(i.log_scale, x)?)),
+        Distribution::Categorical(_) => Err(Refusal::OutOfDomain),
     }
 }
 
 // The decoding of any value: 11 where the distribution is malformed or a choice, or the value is out of its domain.
-pub fn from_internal(x: f64, d: Distribution) -> ParamValue
+pub fn from_internal(x: f64, d: Distribution) -> Result<ParamValue, Refusal>
     ensures { result ≡ from_internal_of x d }
 {
     if !is_inside(internal_bounds(d), x) {
-        return ParamValue::Refused(11);
+        return Err(Refusal::OutOfDomain);
     }
     decoded(x, d)
 }

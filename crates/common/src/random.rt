@@ -1,47 +1,15 @@
 // A random value for any distribution, one word each.
 ghost use Rattle.std.specs.Prelude.{◌≡◌, T, ◌≤◌};
 ghost use Rattle.distribution.specs.Shape.{int_shape, shape_of};
-ghost use Rattle.common.specs.Random.{range_of, log_range, log_float, settled, finished, refused_of, log_float_random, stepped_float_random, linear_float_random, float_random, log_int_random, stepped_int_random, linear_int_random, int_random, categorical_random, random_of, sample_random_of};
+ghost use Rattle.common.specs.Random.{range_of, log_range, log_float, log_float_random, stepped_float_random, linear_float_random, float_random, log_int_random, stepped_int_random, linear_int_random, int_random, categorical_random, random_of, sample_random_of};
 ghost use Rattle.common.specs.RandomParts.{LogFits, Stepped};
 
-use crate::RandomDraw;
 use crate::decode::int_decoded;
 use crate::grid::{clamp, float_grid};
 use distribution::{Distribution, FloatDistribution, IntDistribution, ParamValue};
 use encoding::{InternalBounds, ends};
 use refusal::Refusal;
-
-// A refusal draws nothing.
-fn refused(w: u64, n: u64) -> RandomDraw
-    ensures { result ≡ refused_of w n }
-{
-    RandomDraw {
-        value: ParamValue::Refused(n),
-        drawn: 0,
-        next: w,
-    }
-}
-
-// A value and what was drawn for it, or its refusal.
-fn settle(w: u64, drawn: u64, next: u64, value: ParamValue) -> RandomDraw
-    ensures { result ≡ settled w drawn next value }
-{
-    match value {
-        ParamValue::Refused(n) => refused(w, n),
-        _ => RandomDraw { value, drawn, next },
-    }
-}
-
-// The same where the draw itself may be refused.
-fn finish(w: u64, number: u64, drawn: u64, next: u64, value: ParamValue) -> RandomDraw
-    ensures { result ≡ finished w number drawn next value }
-{
-    if number == 0 {
-        settle(w, drawn, next, value)
-    } else {
-        refused(w, number)
-    }
-}
+use rng_util::Draw;
 
 // A float from low to high, at a unit float.
 fn f64_range(low: f64, high: f64, u: f64) -> f64
@@ -62,47 +30,45 @@ fn log_range(b: InternalBounds, u: f64) -> Result<f64, Refusal>
 }
 
 // A stepped float on log scale is clamped, an unstepped one is not.
-fn log_float(d: FloatDistribution, o: Result<f64, Refusal>) -> ParamValue
-    ensures { result ≡ log_float d o }
+fn log_float(d: FloatDistribution, v: f64) -> ParamValue
+    ensures { result ≡ log_float d v }
 {
-    match o {
-        Ok(v) => {
-            if d.stepped {
-                ParamValue::Float(clamp(d.low, d.high, float_grid(d, v)))
-            } else {
-                ParamValue::Float(v)
-            }
-        }
-        Err(refusal) => ParamValue::Refused(refusal.number()),
+    if d.stepped {
+        ParamValue::Float(clamp(d.low, d.high, float_grid(d, v)))
+    } else {
+        ParamValue::Float(v)
     }
 }
 
-fn log_float_random(w: u64, d: FloatDistribution) -> RandomDraw
+#[tactic(auto, unfolding(crate::specs::Random::log_float_random))]
+fn log_float_random(w: u64, d: FloatDistribution) -> Result<Draw<ParamValue>, Refusal>
     ensures { result ≡ log_float_random w d }
 {
-    let r = rng_util::unit_float(w);
-    let v = log_float(d, log_range(ends(Distribution::Float(d)), r.value));
-    finish(w, r.number, r.drawn, r.next, v)
+    let r = rng_util::unit_float(w)?;
+    let v = log_range(ends(Distribution::Float(d)), r.value)?;
+    Ok(r.with(log_float(d, v)))
 }
 
-fn stepped_float_random(w: u64, d: FloatDistribution) -> RandomDraw
+#[tactic(auto, unfolding(crate::specs::Random::stepped_float_random))]
+fn stepped_float_random(w: u64, d: FloatDistribution) -> Result<Draw<ParamValue>, Refusal>
     ensures { result ≡ stepped_float_random w d }
 {
     let n = arith::int_of_float(arith::floor((d.high - d.low) / d.step));
-    let r = rng_util::whole_number(w, 0, n);
+    let r = rng_util::whole_number(w, 0, n)?;
     let v = d.low + arith::float_of_int(r.value) * d.step;
-    finish(w, r.number, r.drawn, r.next, ParamValue::Float(v))
+    Ok(r.with(ParamValue::Float(v)))
 }
 
-fn linear_float_random(w: u64, low: f64, high: f64) -> RandomDraw
+#[tactic(auto, unfolding(crate::specs::Random::linear_float_random))]
+fn linear_float_random(w: u64, low: f64, high: f64) -> Result<Draw<ParamValue>, Refusal>
     ensures { result ≡ linear_float_random w low high }
 {
-    let r = rng_util::unit_float(w);
-    let v = f64_range(low, high, r.value);
-    finish(w, r.number, r.drawn, r.next, ParamValue::Float(v))
+    let r = rng_util::unit_float(w)?;
+    Ok(r.with(ParamValue::Float(f64_range(low, high, r.value))))
 }
 
-fn float_random(w: u64, d: FloatDistribution) -> RandomDraw
+#[tactic(auto, unfolding(crate::specs::Random::float_random))]
+fn float_random(w: u64, d: FloatDistribution) -> Result<Draw<ParamValue>, Refusal>
     ensures { result ≡ float_random w d }
 {
     if d.log_scale {
@@ -114,38 +80,36 @@ fn float_random(w: u64, d: FloatDistribution) -> RandomDraw
     linear_float_random(w, d.low, d.high)
 }
 
-fn log_int_random(w: u64, d: IntDistribution) -> RandomDraw
+#[tactic(auto, unfolding(crate::specs::Random::log_int_random))]
+fn log_int_random(w: u64, d: IntDistribution) -> Result<Draw<ParamValue>, Refusal>
     requires { LogFits w d }
     ensures { result ≡ log_int_random w d }
 {
-    let r = rng_util::unit_float(w);
-    let v = int_decoded(d, log_range(ends(Distribution::Int(d)), r.value));
-    finish(w, r.number, r.drawn, r.next, v)
+    let r = rng_util::unit_float(w)?;
+    let v = log_range(ends(Distribution::Int(d)), r.value)?;
+    Ok(r.with(int_decoded(d, v)))
 }
 
-fn stepped_int_random(w: u64, low: i64, high: i64, step: i64) -> RandomDraw
+#[tactic(auto, unfolding(crate::specs::Random::stepped_int_random))]
+fn stepped_int_random(w: u64, low: i64, high: i64, step: i64) -> Result<Draw<ParamValue>, Refusal>
     requires { Stepped low high step }
     ensures { result ≡ stepped_int_random w low high step }
 {
-    let r = rng_util::whole_number(w, 0, (high - low) / step);
+    let r = rng_util::whole_number(w, 0, (high - low) / step)?;
     let k = r.value;
-    finish(
-        w,
-        r.number,
-        r.drawn,
-        r.next,
-        ParamValue::Int(low + k * step),
-    )
+    Ok(r.with(ParamValue::Int(low + k * step)))
 }
 
-fn linear_int_random(w: u64, low: i64, high: i64) -> RandomDraw
+#[tactic(auto, unfolding(crate::specs::Random::linear_int_random))]
+fn linear_int_random(w: u64, low: i64, high: i64) -> Result<Draw<ParamValue>, Refusal>
     ensures { result ≡ linear_int_random w low high }
 {
-    let r = rng_util::whole_number(w, low, high);
-    finish(w, r.number, r.drawn, r.next, ParamValue::Int(r.value))
+    let r = rng_util::whole_number(w, low, high)?;
+    Ok(r.with(ParamValue::Int(r.value)))
 }
 
-fn int_random(w: u64, d: IntDistribution) -> RandomDraw
+#[tactic(auto, unfolding(crate::specs::Random::int_random))]
+fn int_random(w: u64, d: IntDistribution) -> Result<Draw<ParamValue>, Refusal>
     requires { T (int_shape d) }
     ensures { result ≡ int_random w d }
 {
@@ -158,22 +122,18 @@ fn int_random(w: u64, d: IntDistribution) -> RandomDraw
     linear_int_random(w, d.low, d.high)
 }
 
-fn categorical_random(w: u64, n_choices: u64) -> RandomDraw
+#[tactic(auto, unfolding(crate::specs::Random::categorical_random))]
+fn categorical_random(w: u64, n_choices: u64) -> Result<Draw<ParamValue>, Refusal>
     requires { (1 ≤ n_choices) × (n_choices ≤ 4294967296) }
     ensures { result ≡ categorical_random w n_choices }
 {
-    let r = rng_util::whole_number(w, 0, (n_choices - 1) as i64);
+    let r = rng_util::whole_number(w, 0, (n_choices - 1) as i64)?;
     let k = r.value;
-    finish(
-        w,
-        r.number,
-        r.drawn,
-        r.next,
-        ParamValue::Categorical(k as u64),
-    )
+    Ok(r.with(ParamValue::Categorical(k as u64)))
 }
 
-fn random(w: u64, d: Distribution) -> RandomDraw
+#[tactic(auto, unfolding(crate::specs::Random::random_of))]
+fn random(w: u64, d: Distribution) -> Result<Draw<ParamValue>, Refusal>
     requires { T (shape_of d) }
     ensures { result ≡ random_of w d }
 {
@@ -185,11 +145,12 @@ fn random(w: u64, d: Distribution) -> RandomDraw
 }
 
 // A random value of any distribution: 11 where it is malformed or the generator's word is 0.
-pub fn sample_random(w: u64, d: Distribution) -> RandomDraw
+#[tactic(auto, unfolding(crate::specs::Random::sample_random_of))]
+pub fn sample_random(w: u64, d: Distribution) -> Result<Draw<ParamValue>, Refusal>
     ensures { result ≡ sample_random_of w d }
 {
     if !distribution::well_formed(d) {
-        return refused(w, 11);
+        return Err(Refusal::OutOfDomain);
     }
     random(w, d)
 }

@@ -2,8 +2,7 @@
 use Rattle.std.specs.Float.{binary64}
 use Rattle.std.specs.Float.Ieee.{of_bits}
 use Rattle.distribution.specs.declared.ParamValue.{ParamValue}
-use Rattle.dimensions.specs.declared.Stored.{Stored}
 
 -- the empty value, which no place holds that is taken
-abbrev pub empty_stored : Stored
-empty_stored = record { value = ParamValue.Float (of_bits binary64 0) }
+abbrev pub empty_value : ParamValue
+empty_value = ParamValue.Float (of_bits binary64 0)

@@ -4,7 +4,7 @@
 pub mod bounds;
 
 pub use bounds::{dimension, dimensions_ok, is_continuous};
-use distribution::{Distribution, ParamValue};
+use distribution::Distribution;
 
 // A dimension: its distribution beside its internal bounds. Those of a choice are +0 and +0.
 #[derive(Clone, Copy)]
@@ -12,10 +12,4 @@ pub struct DimensionInfo {
     pub distribution: Distribution,
     pub lo: f64,
     pub hi: f64,
-}
-
-// A value in an array.
-#[derive(Clone, Copy)]
-pub struct Stored {
-    pub value: ParamValue,
 }

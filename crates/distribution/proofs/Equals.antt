@@ -232,15 +232,12 @@ unfolding taken_of
 taken-cases (floats {a = a} {b = b} t) (ParamValue.Float x) = ap (λ (l : Bool). float_taken l x) (float_same a b t).log
 taken-cases (floats t) (ParamValue.Int x) = refl
 taken-cases (floats t) (ParamValue.Categorical x) = refl
-taken-cases (floats t) (ParamValue.Refused x) = refl
 taken-cases (ints t) (ParamValue.Float x) = refl
 taken-cases (ints {a = a} {b = b} t) (ParamValue.Int x) = ap (λ (l : Bool). int_taken l x) (int_same a b t).log
 taken-cases (ints t) (ParamValue.Categorical x) = refl
-taken-cases (ints t) (ParamValue.Refused x) = refl
 taken-cases (choices p) (ParamValue.Float x) = refl
 taken-cases (choices p) (ParamValue.Int x) = refl
 taken-cases (choices p) (ParamValue.Categorical x) = ap (ltb x) p
-taken-cases (choices p) (ParamValue.Refused x) = refl
 
 pub equal-taken : (a b : Distribution) → T (equal_of a b) → (v : ParamValue) → taken_of a v ≡ taken_of b v
 equal-taken a b t v = taken-cases (equal-cases a b t) v

@@ -15,21 +15,18 @@ float_taken log v = within (power (pos 53)) v && (not log || le (power (negsuc 5
 unfoldable pub int_taken : Bool → ℤ → Bool
 int_taken log v = within_z (pos (2 ^ 52)) v && (not log || le_z (pos 1) v)
 
--- a value of another kind, and a refusal, is never taken
+-- a value of another kind is never taken
 unfoldable pub taken_of : Distribution → ParamValue → Bool
 unfolding float_taken int_taken
 taken_of (Distribution.Float d) (ParamValue.Float v) = float_taken d.log_scale v
 taken_of (Distribution.Float d) (ParamValue.Int v) = false
 taken_of (Distribution.Float d) (ParamValue.Categorical v) = false
-taken_of (Distribution.Float d) (ParamValue.Refused v) = false
 taken_of (Distribution.Int d) (ParamValue.Float v) = false
 taken_of (Distribution.Int d) (ParamValue.Int v) = int_taken d.log_scale v
 taken_of (Distribution.Int d) (ParamValue.Categorical v) = false
-taken_of (Distribution.Int d) (ParamValue.Refused v) = false
 taken_of (Distribution.Categorical d) (ParamValue.Float v) = false
 taken_of (Distribution.Categorical d) (ParamValue.Int v) = false
 taken_of (Distribution.Categorical d) (ParamValue.Categorical v) = ltb v d.n_choices
-taken_of (Distribution.Categorical d) (ParamValue.Refused v) = false
 
 -- a word read as a value of the distribution's kind
 unfoldable pub value_of : Distribution → ℕ → ParamValue

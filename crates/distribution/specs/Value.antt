@@ -1,4 +1,4 @@
--- Document 01's kind and value words of a value: "A value is a float, an integer or a choice index", and a refusal prints 0 and its number. Definitions only.
+-- Document 01's kind and value words of a value: "A value is a float, an integer or a choice index". Definitions only.
 use Rattle.std.specs.Prelude.{ℕ}
 use Rattle.std.specs.Float.{binary64}
 use Rattle.std.specs.Float.Ieee.{to_bits}
@@ -10,10 +10,8 @@ abbrev pub kind_of : ParamValue → ℕ
 kind_of (ParamValue.Float x) = 1
 kind_of (ParamValue.Int z) = 2
 kind_of (ParamValue.Categorical i) = 3
-kind_of (ParamValue.Refused n) = 0
 
 abbrev pub word_of : ParamValue → ℕ
 word_of (ParamValue.Float x) = to_bits binary64 x
 word_of (ParamValue.Int z) = of_z w64 z
 word_of (ParamValue.Categorical i) = i
-word_of (ParamValue.Refused n) = n

@@ -46,16 +46,15 @@ pub enum Distribution {
     Categorical(CategoricalDistribution),
 }
 
-// A value of a parameter, or the number of a refusal where none is answered.
+// A value of a parameter.
 #[derive(Clone, Copy)]
 pub enum ParamValue {
     Float(f64),
     Int(i64),
     Categorical(u64),
-    Refused(u64),
 }
 
-// The kind of a value: 1 float, 2 int, 3 choice, 0 a refusal.
+// The kind of a value: 1 float, 2 int, 3 choice.
 pub fn kind(v: ParamValue) -> u64
     ensures { result ≡ kind_of v }
 {
@@ -63,11 +62,10 @@ pub fn kind(v: ParamValue) -> u64
         ParamValue::Float(_) => 1,
         ParamValue::Int(_) => 2,
         ParamValue::Categorical(_) => 3,
-        ParamValue::Refused(_) => 0,
     }
 }
 
-// The word of a value, or a refusal's number.
+// The word of a value.
 pub fn word(v: ParamValue) -> u64
     ensures { result ≡ word_of v }
 {
@@ -75,6 +73,5 @@ pub fn word(v: ParamValue) -> u64
         ParamValue::Float(x) => arith::word_of_float(x),
         ParamValue::Int(z) => arith::word_of_int(z),
         ParamValue::Categorical(i) => i,
-        ParamValue::Refused(n) => n,
     }
 }

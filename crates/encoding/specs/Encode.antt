@@ -24,9 +24,6 @@ encoded_of (ParamValue.Int v) (Distribution.Categorical d) = zero
 encoded_of (ParamValue.Categorical v) (Distribution.Float d) = zero
 encoded_of (ParamValue.Categorical v) (Distribution.Int d) = zero
 encoded_of (ParamValue.Categorical v) (Distribution.Categorical d) = zero
-encoded_of (ParamValue.Refused n) (Distribution.Float d) = zero
-encoded_of (ParamValue.Refused n) (Distribution.Int d) = zero
-encoded_of (ParamValue.Refused n) (Distribution.Categorical d) = zero
 
 unfoldable pub to_internal_of : ParamValue → Distribution → Result Float Refusal
 unfolding encoded_of

@@ -2,15 +2,14 @@
 #![tactic(auto)]
 
 ghost use Rattle.std.specs.Prelude.{◌≡◌};
-ghost use Rattle.rng_util.specs.Draws.{word_draw_of, unit_draw_of, whole_draw_of};
+ghost use Rattle.rng_util.specs.Draws.{word_draw_of, unit_draw_of, whole_draw_of, word_after};
 ghost use Rattle.common.specs.Random.{sample_random_of};
-ghost use Rattle.search.specs.Search.{optimize_acquisition_of, word_after};
+ghost use Rattle.search.specs.Search.{optimize_acquisition_of, word_after as word_after_search};
 
-use common::RandomDraw;
-use distribution::Distribution;
+use distribution::{Distribution, ParamValue};
 use gp_model::Model;
 use refusal::Refusal;
-use rng_util::{UnitDraw, WholeDraw, WordDraw};
+use rng_util::Draw;
 use search::Candidate;
 
 #[derive(Drop)]
@@ -19,39 +18,39 @@ pub struct Generator {
 }
 
 // The next word.
-pub fn next_word(g: &mut Generator) -> WordDraw
-    ensures { (result ≡ word_draw_of g.old.word) × (g.new.word ≡ (word_draw_of g.old.word).next) }
+pub fn next_word(g: &mut Generator) -> Result<Draw<u64>, Refusal>
+    ensures { (result ≡ word_draw_of g.old.word) × (g.new.word ≡ word_after g.old.word result) }
 {
-    let d = rng_util::next_word(g.word);
+    let d = rng_util::next_word(g.word)?;
     g.word = d.next;
-    d
+    Ok(d)
 }
 
 // A unit float.
-pub fn unit_float(g: &mut Generator) -> UnitDraw
-    ensures { (result ≡ unit_draw_of g.old.word) × (g.new.word ≡ (unit_draw_of g.old.word).next) }
+pub fn unit_float(g: &mut Generator) -> Result<Draw<f64>, Refusal>
+    ensures { (result ≡ unit_draw_of g.old.word) × (g.new.word ≡ word_after g.old.word result) }
 {
-    let d = rng_util::unit_float(g.word);
+    let d = rng_util::unit_float(g.word)?;
     g.word = d.next;
-    d
+    Ok(d)
 }
 
 // A whole number in a..=b.
-pub fn whole_number(g: &mut Generator, a: i64, b: i64) -> WholeDraw
-    ensures { (result ≡ whole_draw_of g.old.word a b) × (g.new.word ≡ (whole_draw_of g.old.word a b).next) }
+pub fn whole_number(g: &mut Generator, a: i64, b: i64) -> Result<Draw<i64>, Refusal>
+    ensures { (result ≡ whole_draw_of g.old.word a b) × (g.new.word ≡ word_after g.old.word result) }
 {
-    let d = rng_util::whole_number(g.word, a, b);
+    let d = rng_util::whole_number(g.word, a, b)?;
     g.word = d.next;
-    d
+    Ok(d)
 }
 
 // A random value of a distribution.
-pub fn sample_random(g: &mut Generator, d: Distribution) -> RandomDraw
-    ensures { (result ≡ sample_random_of g.old.word d) × (g.new.word ≡ (sample_random_of g.old.word d).next) }
+pub fn sample_random(g: &mut Generator, d: Distribution) -> Result<Draw<ParamValue>, Refusal>
+    ensures { (result ≡ sample_random_of g.old.word d) × (g.new.word ≡ word_after g.old.word result) }
 {
-    let a = common::sample_random(g.word, d);
+    let a = common::sample_random(g.word, d)?;
     g.word = a.next;
-    a
+    Ok(a)
 }
 
 // The point of highest expected improvement, of n_candidates points drawn.
@@ -61,7 +60,7 @@ pub fn optimize_acquisition(
     n_dims: usize,
     n_candidates: u64,
 ) -> Result<Candidate, Refusal>
-    ensures { (result ≡ optimize_acquisition_of m n_dims n_candidates g.old.word) × (g.new.word ≡ word_after result g.old.word) }
+    ensures { (result ≡ optimize_acquisition_of m n_dims n_candidates g.old.word) × (g.new.word ≡ word_after_search result g.old.word) }
 {
     let found = search::optimize_acquisition(m, n_dims, n_candidates, g.word)?;
     g.word = found.next;

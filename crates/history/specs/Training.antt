@@ -1,6 +1,9 @@
 -- "Training: a row lacking a mapped id for a continuous dimension is dropped; if such a dimension consumed no id, all rows are." Definitions only.
 use Rattle.refusal.specs.declared.Refusal.{Refusal}
-use Rattle.std.specs.Prelude.{ℕ, ◌*◌, ◌/◌, ◌%◌, Bool, List, ltb, length, get_or, Float, Option, Some, None, Result, Ok}
+use Rattle.refusal.specs.declared.Refusal.TheVariants.{Slot}
+use Rattle.distribution.specs.declared.Distribution.{Distribution}
+use Rattle.distribution.specs.declared.ParamValue.{ParamValue}
+use Rattle.std.specs.Prelude.{ℕ, ◌*◌, ◌/◌, ◌%◌, Bool, List, ltb, length, get_or, Float, Option, Some, None, Result, Ok, Err}
 use Rattle.std.specs.Result.{result_and}
 use Rattle.std.specs.Float.{binary64}
 use Rattle.std.specs.Float.Ieee.{of_bits}
@@ -33,10 +36,15 @@ unfoldable pub trains_of : ℕ → List (Option ℕ) → List ℕ → List ℕ �
 unfolding covers_of
 trains_of n mapping columns row = every (length columns) (λ c. covers_of n row (get_or mapping (get_or columns c 0) None))
 
+-- a value under a distribution; a slot of which none is read is refused
+abbrev pub internal_of : Option ParamValue → Distribution → Result Float Refusal
+internal_of (Some v) d = to_internal_of v d
+internal_of None d = Err Slot
+
 -- a slot's value under a dimension: `to_internal`, then scaled by the dimension's bounds
 unfoldable pub entry_of : DimensionInfo → List ℕ → Float
 unfolding slot_read
-entry_of d v = to_normalized_of (value_of (to_internal_of (value_read (slot_read v) (taken_word v)) d.distribution)) d.lo d.hi
+entry_of d v = to_normalized_of (value_of (internal_of (value_read (slot_read v) (taken_word v)) d.distribution)) d.lo d.hi
 
 -- a row's value for dimension j
 unfoldable pub column_of : ℕ → List DimensionInfo → List (Option ℕ) → List ℕ → ℕ → Float

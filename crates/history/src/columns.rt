@@ -7,6 +7,7 @@ ghost use Rattle.history.specs.Training.{mapped_place, trains_of, entry_of, colu
 use crate::Places;
 use crate::rows::Row;
 use dimensions::DimensionInfo;
+use refusal::Refusal;
 
 impl Places {
     // No place.
@@ -50,8 +51,10 @@ fn entry(d: DimensionInfo, slot: &[u64]) -> f64
     requires { length slot.now ≡ 8 }
     ensures { result ≡ entry_of d slot.now }
 {
-    let distribution = d.distribution;
-    let internal = encoding::to_internal(slots::value(slot), distribution);
+    let internal = match slots::value(slot) {
+        Some(v) => encoding::to_internal(v, d.distribution),
+        None => Err(Refusal::Slot),
+    };
     scaling::to_normalized(arith::value(internal), d.lo, d.hi)
 }
 

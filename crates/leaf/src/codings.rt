@@ -12,11 +12,8 @@ pub(crate) fn distribution(words: &[u64]) -> Result<Distribution, Failure> {
 }
 
 // The kind and the word of a value.
-fn value(v: ParamValue) -> Result<[u64; 2], Failure> {
-    if let ParamValue::Refused(_) = v {
-        return Err(Failure::Refused(Refusal::OutOfDomain));
-    }
-    Ok([distribution::kind(v), distribution::word(v)])
+fn kind_and_word(v: ParamValue) -> [u64; 2] {
+    [distribution::kind(v), distribution::word(v)]
 }
 
 pub(crate) fn well_formed(args: &[u64], results: &mut Results) -> Reply {
@@ -57,10 +54,8 @@ pub(crate) fn from_internal(args: &[u64], results: &mut Results) -> Reply {
         return Err(Failure::Unreadable);
     };
     let d = distribution(words)?;
-    put(
-        value(common::from_internal(arith::float_of_word(*x), d))?,
-        results,
-    )
+    let v = common::from_internal(arith::float_of_word(*x), d)?;
+    put(kind_and_word(v), results)
 }
 
 // The value of a kind and a word; another kind is a refusal.
@@ -87,7 +82,7 @@ pub(crate) fn sample_random(args: &[u64], results: &mut Results) -> Reply {
         return Err(Failure::Unreadable);
     };
     let d = distribution(words)?;
-    let r = common::sample_random(*state, d);
-    let [kind, word] = value(r.value)?;
+    let r = common::sample_random(*state, d)?;
+    let [kind, word] = kind_and_word(r.value);
     put([kind, word, r.drawn, r.next], results)
 }

@@ -54,12 +54,3 @@ pub(crate) fn floats<const N: usize>(args: &[u64]) -> Result<[f64; N], Failure> 
 pub(crate) fn put_float(x: f64, results: &mut Results) -> Reply {
     put([arith::word_of_float(x)], results)
 }
-
-// Refuses the call where the number of an answer is not 0.
-pub(crate) fn accepted(number: u64, refusal: Refusal) -> Result<(), Failure> {
-    if number == 0 {
-        Ok(())
-    } else {
-        Err(Failure::Refused(refusal))
-    }
-}

@@ -15,6 +15,7 @@ use Rattle.arith.specs.Lists.{padded}
 use Rattle.arith.proofs.Lists.{filled_at, padded-at, grown-length}
 use Rattle.rng_util.specs.Draws.{unit_of}
 use Rattle.rng_util.specs.Generator.{stream_of}
+use Rattle.distribution.specs.declared.ParamValue.{ParamValue}
 use Rattle.common.specs.declared.RandomDraw.{RandomDraw}
 use Rattle.common.specs.Random.{sample_random_of}
 use Rattle.std.specs.Prelude.{Result, Ok}
@@ -30,39 +31,38 @@ use Rattle.history_view.specs.View.{seen_of}
 use Rattle.settings.specs.declared.Settings.{Settings}
 use Rattle.proposal.specs.declared.Point.{Point}
 use Rattle.proposal.specs.declared.Proposal.{Proposal}
-use Rattle.dimensions.specs.declared.Stored.{Stored}
 use Rattle.proposal.specs.Points.{fit_for, search_point, point_for}
 use Rattle.proposal.specs.Proposal.{from_point, at_random, candidate_of, compute_candidate_of}
-use Rattle.dimensions.specs.Empty.{empty_stored}
+use Rattle.dimensions.specs.Empty.{empty_value}
 use Rattle.proposal.specs.Values.{decode_of, step_of, walk_of}
 use Rattle.proposal.proofs.Draws.{point-is}
 use Rattle.proposal.proofs.Moving.{model-columns}
-use Rattle.proposal.proofs.Numbers.{accepted-is}
+use Rattle.proposal.proofs.Numbers.{made-by}
 use Rattle.proposal.proofs.Ranges.{column-below}
 use Rattle.proposal.proofs.Walk.{walk-length}
-use Rattle.proposal.proofs.WordCount.{passes, ranged, view-columns}
+use Rattle.proposal.proofs.WordCount.{view-columns}
 
 -- ---- a walk's values
 
 -- value j is that of step j
 walk_at : (given : Bool) (point : List Float) (dims : List DimensionInfo) (w k j : ℕ) → j < k
-    → (get_or (walk_of given point dims k w).values j empty_stored).value ≡ (step_of given (dimension_at dims j) (get_or point (length (columns_of dims j)) nan) (walk_of given point dims j w).next).value
+    → (get_or (walk_of given point dims k w).values j empty_value) ≡ (step_of given (dimension_at dims j) (get_or point (length (columns_of dims j)) nan) (walk_of given point dims j w).next).value
 unfolding walk_of
 walk_at given point dims w zero j l = absurd (not-suc-le-zero l)
 walk_at given point dims w (suc k) j l =
     let b = walk_of given point dims k w in
-    let r : Stored = record { value = (step_of given (dimension_at dims k) (get_or point (length (columns_of dims k)) nan) b.next).value } in
-    let last = subst (λ (i : ℕ). get_or (b.values ++ (r ∷ [])) i empty_stored ≡ r) (walk-length given point dims w k) (get_or-append_seam b.values r [] empty_stored) in
+    let r : ParamValue = (step_of given (dimension_at dims k) (get_or point (length (columns_of dims k)) nan) b.next).value in
+    let last = subst (λ (i : ℕ). get_or (b.values ++ (r ∷ [])) i empty_value ≡ r) (walk-length given point dims w k) (get_or-append_seam b.values r [] empty_value) in
     elim (eq-or-lt_of_le (le_of_suc-le-suc l)) [
-      | inl e ↦ subst (λ (i : ℕ). (get_or (b.values ++ (r ∷ [])) i empty_stored).value ≡ (step_of given (dimension_at dims i) (get_or point (length (columns_of dims i)) nan) (walk_of given point dims i w).next).value) (sym e)
-          (ap (λ (v : Stored). v.value) last)
-      | inr m ↦ ap (λ (v : Stored). v.value) (get_or-append b.values (r ∷ []) empty_stored j (subst (λ (n : ℕ). j < n) (sym (walk-length given point dims w k)) m)) ∙ walk_at given point dims w k j m
+      | inl e ↦ subst (λ (i : ℕ). get_or (b.values ++ (r ∷ [])) i empty_value ≡ (step_of given (dimension_at dims i) (get_or point (length (columns_of dims i)) nan) (walk_of given point dims i w).next).value) (sym e)
+          last
+      | inr m ↦ get_or-append b.values (r ∷ []) empty_value j (subst (λ (n : ℕ). j < n) (sym (walk-length given point dims w k)) m) ∙ walk_at given point dims w k j m
     ]
 
 -- the values of the continuous dimensions are the decoding of a point
-abbrev pub Decodes : List DimensionInfo → ℕ → List Stored → List Float → Type 0
+abbrev pub Decodes : List DimensionInfo → ℕ → List ParamValue → List Float → Type 0
 Decodes dims k values point =
-    (j : ℕ) → j < k → T (continuous_of (dimension_at dims j).distribution) → (get_or values j empty_stored).value ≡ decode_of (dimension_at dims j) (get_or point (length (columns_of dims j)) nan)
+    (j : ℕ) → j < k → T (continuous_of (dimension_at dims j).distribution) → get_or values j empty_value ≡ decode_of (dimension_at dims j) (get_or point (length (columns_of dims j)) nan)
 
 step-decoded : (d : DimensionInfo) (u : Float) (w : ℕ) → T (continuous_of d.distribution) → (step_of true d u w).value ≡ decode_of d u
 unfolding step_of
@@ -71,12 +71,12 @@ step-decoded d u w c = ap (λ (t : Bool). (cond {A = RandomDraw} t (record { val
 from-point : (dims : List DimensionInfo) (k : ℕ) (p : Point) → Decodes dims k (from_point dims k p).values p.x
 from-point dims k p j l c =
     let b = walk_of true p.x dims k p.next in
-    ap (λ (v : Stored). v.value) (filled_at empty_stored 20 b.values j empty_stored (subst (λ (n : ℕ). j < n) (sym (walk-length true p.x dims p.next k)) l))
+    filled_at empty_value 20 b.values j empty_value (subst (λ (n : ℕ). j < n) (sym (walk-length true p.x dims p.next k)) l)
     ∙ walk_at true p.x dims p.next k j l
     ∙ step-decoded (dimension_at dims j) (get_or p.x (length (columns_of dims j)) nan) (walk_of true p.x dims j p.next).next c
 
 -- of a point with a coordinate for each of them, in an array
-from-array : (dims : List DimensionInfo) (k : ℕ) (values : List Stored) (x point : List Float) → Decodes dims k values x → x ≡ padded 20 point → length point ≡ length (columns_of dims k) → Decodes dims k values point
+from-array : (dims : List DimensionInfo) (k : ℕ) (values : List ParamValue) (x point : List Float) → Decodes dims k values x → x ≡ padded 20 point → length point ≡ length (columns_of dims k) → Decodes dims k values point
 from-array dims k values x point f e n j l c =
     f j l c
     ∙ ap (decode_of (dimension_at dims j)) (ap (λ (y : List Float). get_or y (length (columns_of dims j)) nan) e ∙ padded-at 20 point (length (columns_of dims j)) (subst (λ (m : ℕ). length (columns_of dims j) < m) (sym n) (column-below dims k j l c)))
@@ -84,7 +84,7 @@ from-array dims k values x point f e n j l c =
 -- ---- the best point
 
 -- d is how many of them are continuous
-pub record StoresEarliest (dims : List DimensionInfo) (k candidates w : ℕ) (m : Model) (values : List Stored) (d : ℕ) : Type 0 where
+pub record StoresEarliest (dims : List DimensionInfo) (k candidates w : ℕ) (m : Model) (values : List ParamValue) (d : ℕ) : Type 0 where
   pub none : candidates ≡ 0 → Decodes dims k values (replicate d (of_bits binary64 0x3fe0000000000000))
   pub found : let point = drawn_of d (stream_of (candidates * d) w) in 0 < candidates
       → (c : ℕ) × (c < candidates) × Decodes dims k values (point c)
@@ -98,31 +98,26 @@ module _ (s : Settings) (dims : List DimensionInfo) (k w : ℕ) (h : List ℕ) w
   abbrev fit : Result Model Refusal
   fit = fit_for view.training s.noise_variance
 
-  abbrev values : List Stored
-  values = (compute_candidate_of s dims k w h).values
+  module _ (c : Proposal) (e : compute_candidate_of s dims k w h ≡ Ok c) (made : T (view.reached && leb 1 view.training.d)) (m : Model) (f : fit ≡ Ok m) where
+    -- the point is the search's
+    searched : Decodes dims k c.values (optimum_of m s.n_candidates w).x
+    unfolding candidate_of
+    searched =
+        let p = search_point m view.training.d s.n_candidates w in
+        let q : c.values ≡ (from_point dims k p).values =
+        ap (λ (p : Proposal). p.values) (sym (made-by s dims k w h c e).is)
+        ∙ ap (λ (b : Bool). (cond b (from_point dims k (point_for view.training s.noise_variance s.n_candidates w)) (at_random dims k w)).values) (is_true (view.reached && leb 1 view.training.d) made)
+        ∙ ap (λ (p : Point). (from_point dims k p).values) (point-is view.training s.noise_variance s.n_candidates w (Ok m) f) in
+        subst (λ (v : List ParamValue). Decodes dims k v p.x) (sym q) (from-point dims k p)
 
-  -- the point is the search's
-  searched : (compute_candidate_of s dims k w h).number ≡ 0 → T (view.reached && leb 1 view.training.d) → (m : Model) → fit ≡ Ok m
-      → Decodes dims k values (optimum_of m s.n_candidates w).x
-  unfolding candidate_of
-  searched e made m f =
-      let p = search_point m view.training.d s.n_candidates w in
-      let q : values ≡ (from_point dims k p).values =
-      ap (λ (c : Proposal). c.values) (accepted-is s dims k w h (passes s dims k w h e))
-      ∙ ap (λ (b : Bool). (cond b (from_point dims k (point_for view.training s.noise_variance s.n_candidates w)) (at_random dims k w)).values) (is_true (view.reached && leb 1 view.training.d) made)
-      ∙ ap (λ (p : Point). (from_point dims k p).values) (point-is view.training s.noise_variance s.n_candidates w (Ok m) f) in
-      subst (λ (v : List Stored). Decodes dims k v p.x) (sym q) (from-point dims k p)
-
-  pub stores-earliest : (compute_candidate_of s dims k w h).number ≡ 0 → T (view.reached && leb 1 view.training.d) → (m : Model) → fit ≡ Ok m
-      → StoresEarliest dims k s.n_candidates w m values (length (columns_of dims k))
-  stores-earliest e made m f =
-      let r = ranged s dims k w h (passes s dims k w h e) in
-      let a = earliest m s.n_candidates w in
-      let x = (optimum_of m s.n_candidates w).x in
-      let v = searched e made m f in
-      let d = m.d in
-      let q = model-columns view.training s.noise_variance m f ∙ view-columns s dims k w h r.1 in
-      subst (StoresEarliest dims k s.n_candidates w m values) q (record {
-        none = λ z. from-array dims k values x (replicate d (of_bits binary64 0x3fe0000000000000)) v (a.none z) (length-replicate d (of_bits binary64 0x3fe0000000000000) ∙ q);
-        found = λ z. let b = a.found z in (b.0, b.1, from-array dims k values x (drawn_of d (stream_of (s.n_candidates * d) w) b.0) v b.2 (grown-length (λ xs j. unit_of (get_or (stream_of (s.n_candidates * d) w) (b.0 * d + j) 0)) d ∙ q), b.3, b.4);
-      })
+    pub stores-earliest : StoresEarliest dims k s.n_candidates w m c.values (length (columns_of dims k))
+    stores-earliest =
+        let a = earliest m s.n_candidates w in
+        let x = (optimum_of m s.n_candidates w).x in
+        let v = searched in
+        let d = m.d in
+        let q = model-columns view.training s.noise_variance m f ∙ view-columns s dims k w h (made-by s dims k w h c e).asked in
+        subst (StoresEarliest dims k s.n_candidates w m c.values) q (record {
+          none = λ z. from-array dims k c.values x (replicate d (of_bits binary64 0x3fe0000000000000)) v (a.none z) (length-replicate d (of_bits binary64 0x3fe0000000000000) ∙ q);
+          found = λ z. let b = a.found z in (b.0, b.1, from-array dims k c.values x (drawn_of d (stream_of (s.n_candidates * d) w) b.0) v b.2 (grown-length (λ xs j. unit_of (get_or (stream_of (s.n_candidates * d) w) (b.0 * d + j) 0)) d ∙ q), b.3, b.4);
+        })

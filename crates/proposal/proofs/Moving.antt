@@ -33,9 +33,11 @@ use Rattle.dimensions.specs.Dimensions.{dimension_at, columns_of}
 use Rattle.history_view.specs.View.{seen_of}
 use Rattle.settings.specs.declared.Settings.{Settings}
 use Rattle.proposal.specs.declared.Point.{Point}
-use Rattle.proposal.specs.Proposal.{from_point, at_random, candidate_of, candidate_number, refused_of as refused_proposal, compute_candidate_of}
+use Rattle.proposal.specs.declared.Proposal.{Proposal}
+use Rattle.proposal.specs.Proposal.{from_point, at_random, candidate_of, compute_candidate_of}
 use Rattle.proposal.specs.Points.{fit_for, point_by, point_for}
 use Rattle.proposal.specs.Values.{step_of, walk_of}
+use Rattle.proposal.proofs.Numbers.{made-by}
 use Rattle.proposal.proofs.Walk.{step-moves}
 
 -- some moves, and then some more
@@ -118,11 +120,5 @@ module _ (s : Settings) (dims : List DimensionInfo) (k w : ℕ) where
       go false = walk-moves false (padded 20 []) dims w k ∙ ap (λ (m : ℕ). moved_of m w) (sym (zero-add (walk_of false (padded 20 []) dims k w).drawn))
 
   -- for every argument
-  pub compute-moves : (h : List ℕ) → (compute_candidate_of s dims k w h).next ≡ moved_of (compute_candidate_of s dims k w h).drawn w
-  unfolding compute_candidate_of
-  compute-moves h = go (eqb (candidate_number s dims k w h) 0)
-    where
-      go : (b : Bool) → (cond b (candidate_of s dims k w (seen_of s.slots s.n_startup_trials dims k h)) (refused_proposal (candidate_number s dims k w h) w)).next
-          ≡ moved_of (cond b (candidate_of s dims k w (seen_of s.slots s.n_startup_trials dims k h)) (refused_proposal (candidate_number s dims k w h) w)).drawn w
-      go true = candidate-moves (seen_of s.slots s.n_startup_trials dims k h)
-      go false = unfold moved_of in refl
+  pub compute-moves : (h : List ℕ) (c : Proposal) → compute_candidate_of s dims k w h ≡ Ok c → c.next ≡ moved_of c.drawn w
+  compute-moves h c e = subst (λ (p : Proposal). p.next ≡ moved_of p.drawn w) (made-by s dims k w h c e).is (candidate-moves (seen_of s.slots s.n_startup_trials dims k h))

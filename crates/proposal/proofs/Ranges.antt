@@ -51,10 +51,9 @@ use Rattle.dimensions.specs.Dimensions.{dimension_at, dimension_ok, columns_of}
 use Rattle.history_view.proofs.Values.{Column, floats-fit, bounds-shape, shape, ends}
 use Rattle.settings.specs.declared.Settings.{Settings}
 use Rattle.proposal.specs.declared.Point.{Point}
-use Rattle.dimensions.specs.declared.Stored.{Stored}
 use Rattle.proposal.specs.Points.{fit_for, point_by, point_for}
 use Rattle.proposal.specs.Proposal.{from_point, at_random, candidate_of}
-use Rattle.dimensions.specs.Empty.{empty_stored}
+use Rattle.dimensions.specs.Empty.{empty_value}
 use Rattle.proposal.specs.Values.{decode_of, step_of, walk_of}
 use Rattle.proposal.proofs.Moving.{model-columns, walk-moves, point-moves}
 use Rattle.proposal.proofs.Walk.{walk-length, columns-next}
@@ -192,28 +191,28 @@ module _ (given : Bool) (point : List Float) (dims : List DimensionInfo) (w : �
     formed : (j : ℕ) → j < k → Formed (dimension_at dims j)
     coordinate : T given → (j : ℕ) → j < k → T (continuous_of (dimension_at dims j).distribution) → Coordinate (coordinate_at point dims j)
 
-  walk-ranged : (k : ℕ) → Asks k → (i : ℕ) → i < k → InRange (dimension_at dims i).distribution (get_or (walk_of given point dims k w).values i empty_stored).value
+  walk-ranged : (k : ℕ) → Asks k → (i : ℕ) → i < k → InRange (dimension_at dims i).distribution (get_or (walk_of given point dims k w).values i empty_value)
   unfolding walk_of
   walk-ranged zero a i l = absurd (not-suc-le-zero l)
   walk-ranged (suc k) a i l =
       let b = walk_of given point dims k w in
       let r = step_of given (dimension_at dims k) (coordinate_at point dims k) b.next in
-      let s : Stored = record { value = r.value } in
-      let last = subst (λ (j : ℕ). get_or (b.values ++ (s ∷ [])) j empty_stored ≡ s) (walk-length given point dims w k) (get_or-append_seam b.values s [] empty_stored) in
+      let s : ParamValue = r.value in
+      let last = subst (λ (j : ℕ). get_or (b.values ++ (s ∷ [])) j empty_value ≡ s) (walk-length given point dims w k) (get_or-append_seam b.values s [] empty_value) in
       let z : Nonzero b.next = subst Nonzero (sym (walk-moves given point dims w k)) (moved-nonzero b.drawn w h) in
       elim (eq-or-lt_of_le (le_of_suc-le-suc l)) [
-        | inl e ↦ subst (λ (j : ℕ). InRange (dimension_at dims j).distribution (get_or (b.values ++ (s ∷ [])) j empty_stored).value) (sym e)
-            (subst (λ (x : Stored). InRange (dimension_at dims k).distribution x.value) (sym last)
+        | inl e ↦ subst (λ (j : ℕ). InRange (dimension_at dims j).distribution (get_or (b.values ++ (s ∷ [])) j empty_value)) (sym e)
+            (subst (InRange (dimension_at dims k).distribution) (sym last)
             (step-ranged given (dimension_at dims k) (coordinate_at point dims k) b.next (a.formed k (omega arith)) z (λ g. a.coordinate g k (omega arith))))
-        | inr m ↦ subst (λ (x : Stored). InRange (dimension_at dims i).distribution x.value)
-            (sym (get_or-append b.values (s ∷ []) empty_stored i (subst (λ (n : ℕ). i < n) (sym (walk-length given point dims w k)) m)))
+        | inr m ↦ subst (InRange (dimension_at dims i).distribution)
+            (sym (get_or-append b.values (s ∷ []) empty_value i (subst (λ (n : ℕ). i < n) (sym (walk-length given point dims w k)) m)))
             (walk-ranged k (record { formed = λ j q. a.formed j (omega arith); coordinate = λ g j q. a.coordinate g j (omega arith) }) i m)
       ]
 
-  filled-ranged : (k : ℕ) → Asks k → (i : ℕ) → i < k → InRange (dimension_at dims i).distribution (get_or (filled empty_stored 20 (walk_of given point dims k w).values) i empty_stored).value
+  filled-ranged : (k : ℕ) → Asks k → (i : ℕ) → i < k → InRange (dimension_at dims i).distribution (get_or (filled empty_value 20 (walk_of given point dims k w).values) i empty_value)
   filled-ranged k a i l =
-      subst (λ (x : Stored). InRange (dimension_at dims i).distribution x.value)
-      (sym (filled_at empty_stored 20 (walk_of given point dims k w).values i empty_stored (subst (λ (n : ℕ). i < n) (sym (walk-length given point dims w k)) l))) (walk-ranged k a i l)
+      subst (InRange (dimension_at dims i).distribution)
+      (sym (filled_at empty_value 20 (walk_of given point dims k w).values i empty_value (subst (λ (n : ℕ). i < n) (sym (walk-length given point dims w k)) l))) (walk-ranged k a i l)
 
 -- a continuous dimension has a column of its own
 pub column-below : (dims : List DimensionInfo) (k j : ℕ) → j < k → T (continuous_of (dimension_at dims j).distribution) → length (columns_of dims j) < length (columns_of dims k)
@@ -228,24 +227,16 @@ column-below dims (suc k) j l c =
 
 -- ---- a new trial's values, by a view whose columns are those of the dimensions
 
-pub candidate-number : (s : Settings) (dims : List DimensionInfo) (k w : ℕ) (v : View) → (candidate_of s dims k w v).number ≡ 0
-unfolding candidate_of
-candidate-number s dims k w v = go (v.reached && leb 1 v.training.d)
-  where
-    go : (b : Bool) → (cond b (from_point dims k (point_for v.training s.noise_variance s.n_candidates w)) (at_random dims k w)).number ≡ 0
-    go true = refl
-    go false = refl
-
 pub candidate-ranged : (s : Settings) (dims : List DimensionInfo) (k w : ℕ) (v : View) → Nonzero w → (T v.reached → v.training.d ≡ length (columns_of dims k))
     → ((j : ℕ) → j < k → Formed (dimension_at dims j))
-    → (i : ℕ) → i < k → InRange (dimension_at dims i).distribution (get_or (candidate_of s dims k w v).values i empty_stored).value
+    → (i : ℕ) → i < k → InRange (dimension_at dims i).distribution (get_or (candidate_of s dims k w v).values i empty_value)
 unfolding candidate_of
 candidate-ranged s dims k w v h columns formed i l = go (v.reached && leb 1 v.training.d) refl
   where
     p : Point
     p = point_for v.training s.noise_variance s.n_candidates w
 
-    given : T v.reached → InRange (dimension_at dims i).distribution (get_or (filled empty_stored 20 (walk_of true p.x dims k p.next).values) i empty_stored).value
+    given : T v.reached → InRange (dimension_at dims i).distribution (get_or (filled empty_value 20 (walk_of true p.x dims k p.next).values) i empty_value)
     given r =
         let z : Nonzero p.next = subst Nonzero (sym (point-moves v.training s.noise_variance s.n_candidates w)) (moved-nonzero p.drawn w h) in
         filled-ranged true p.x dims p.next z k (record {
@@ -253,6 +244,6 @@ candidate-ranged s dims k w v h columns formed i l = go (v.reached && leb 1 v.tr
           coordinate = λ g j m c. point-coordinate v.training s.noise_variance s.n_candidates w (length (columns_of dims j)) h (rw (columns r) (column-below dims k j m c));
         }) i l
 
-    go : (b : Bool) → (v.reached && leb 1 v.training.d) ≡ b → InRange (dimension_at dims i).distribution (get_or (cond b (from_point dims k p) (at_random dims k w)).values i empty_stored).value
+    go : (b : Bool) → (v.reached && leb 1 v.training.d) ≡ b → InRange (dimension_at dims i).distribution (get_or (cond b (from_point dims k p) (at_random dims k w)).values i empty_value)
     go true e = given (and_l v.reached (leb 1 v.training.d) (taken e))
     go false e = filled-ranged false (padded 20 []) dims w h k (record { formed = formed; coordinate = λ g. absurd g }) i l

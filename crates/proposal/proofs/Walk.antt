@@ -15,7 +15,7 @@ use Rattle.common.specs.Random.{sample_random_of}
 use Rattle.common.proofs.Moves.{Moved, random-moves}
 use Rattle.dimensions.specs.declared.DimensionInfo.{DimensionInfo}
 use Rattle.dimensions.specs.Dimensions.{dimension_at, columns_of}
-use Rattle.dimensions.specs.Empty.{empty_stored}
+use Rattle.dimensions.specs.Empty.{empty_value}
 use Rattle.proposal.specs.Values.{decode_of, step_of, walk_of}
 
 pub step-moves : (given : Bool) (d : DimensionInfo) (u : Float) (w : ℕ) → Moved w (step_of given d u w)
@@ -48,6 +48,6 @@ columns-next dims j = sym (places-next j (λ j. continuous_of (dimension_at dims
 -- the next value is written behind those before it
 pub walk-set : (given : Bool) (point : List Float) (dims : List DimensionInfo) (w j : ℕ) → j < 20
     → let b = walk_of given point dims j w in let r = step_of given (dimension_at dims j) (get_or point (length (columns_of dims j)) nan) b.next in
-    set (filled empty_stored 20 b.values) j (record { value = r.value }) ≡ filled empty_stored 20 (walk_of given point dims (suc j) w).values
+    set (filled empty_value 20 b.values) j r.value ≡ filled empty_value 20 (walk_of given point dims (suc j) w).values
 unfolding walk_of
-walk-set given point dims w j h = filled-set-at empty_stored 20 (walk_of given point dims j w).values j (record { value = (step_of given (dimension_at dims j) (get_or point (length (columns_of dims j)) nan) (walk_of given point dims j w).next).value }) (walk-length given point dims w j) h
+walk-set given point dims w j h = filled-set-at empty_value 20 (walk_of given point dims j w).values j (step_of given (dimension_at dims j) (get_or point (length (columns_of dims j)) nan) (walk_of given point dims j w).next).value (walk-length given point dims w j) h

@@ -1,14 +1,13 @@
 -- How many words a new trial's values take: with a model candidates × continuous + choices, without one the dimension count. Assumes nothing.
 use Prim.Native.Nat.{ℕ, zero, suc, ◌+◌, ◌*◌, ◌-◌, ◌^◌, ◌<◌}
 use mathlib.Core.Path.{◌≡◌, refl, sym, ap, ◌∙◌, subst}
-use mathlib.Core.Bool.{Bool, true, false, not, ◌&&◌, cond}
+use mathlib.Core.Bool.{Bool, true, false, ◌&&◌, cond}
 use mathlib.Core.List.{List, []}
 use native.Mathlib.Nat.{pos_of_ne-zero}
 use native.Mathlib.Omega.{arith}
-use lib.Dec.{T, eqb, leb}
+use lib.Dec.{T, leb}
 use lib.ListN.{length, get_or}
 use lib.Ieee.{Float, nan}
-use borrow.Author.Tests.{eqb-true, eqb-false}
 use Rattle.arith.specs.Lists.{padded, places_of}
 use Rattle.rng_util.proofs.Nonzero.{Nonzero, moved-nonzero}
 use Rattle.distribution.specs.declared.Distribution.{Distribution}
@@ -25,7 +24,6 @@ use Rattle.dimensions.specs.declared.DimensionInfo.{DimensionInfo}
 use Rattle.history.specs.declared.Training.{Training}
 use Rattle.history_view.specs.declared.View.{View}
 use Rattle.dimensions.specs.Dimensions.{dimension_at, dimension_ok, dimensions_ok, columns_of}
-use Rattle.refusal.specs.Numbers.{number_of}
 use Rattle.param_mapping.specs.Mapping.{asked_of}
 use Rattle.history.specs.Training.{recent_training}
 use Rattle.history_view.specs.View.{view_of, seen_of}
@@ -33,15 +31,13 @@ use Rattle.history.proofs.FromArray.{training-is}
 use Rattle.param_mapping.proofs.Opened.{accepted}
 use Rattle.dimensions.proofs.Ok.{dimensions-ok}
 use Rattle.history_view.proofs.Values.{floats-fit, bounds-shape}
-use Rattle.history_view.proofs.Views.{none-refused}
 use Rattle.settings.specs.declared.Settings.{Settings}
-use Rattle.settings.specs.Settings.{settings_ok}
 use Rattle.proposal.specs.declared.Proposal.{Proposal}
 use Rattle.proposal.specs.Points.{fit_for, point_by, point_for}
-use Rattle.proposal.specs.Proposal.{from_point, at_random, candidate_of, candidate_number, refused_of, compute_candidate_of}
+use Rattle.proposal.specs.Proposal.{from_point, at_random, candidate_of, compute_candidate_of}
 use Rattle.proposal.specs.Values.{decode_of, step_of, walk_of}
 use Rattle.proposal.proofs.Moving.{walk-moves, point-moves}
-use Rattle.proposal.proofs.Numbers.{accepted-is}
+use Rattle.proposal.proofs.Numbers.{made-by}
 use Rattle.proposal.proofs.Walk.{columns-next}
 
 -- a distribution whose draws are accepted
@@ -121,38 +117,18 @@ module _ (s : Settings) (dims : List DimensionInfo) (k w : ℕ) (h : List ℕ) w
   abbrev view : View
   view = seen_of s.slots s.n_startup_trials dims k h
 
-  -- then no test failed, of the word and of the history
-  pub passes : (compute_candidate_of s dims k w h).number ≡ 0 → candidate_number s dims k w h ≡ 0
-  unfolding compute_candidate_of
-  passes = go (eqb (candidate_number s dims k w h) 0) refl
-    where
-      go : (b : Bool) → eqb (candidate_number s dims k w h) 0 ≡ b → (cond b (candidate_of s dims k w view) (refused_of (candidate_number s dims k w h) w)).number ≡ 0 → candidate_number s dims k w h ≡ 0
-      go true q e = eqb-true (candidate_number s dims k w h) 0 q
-      go false q e = e
-
-  pub ranged : candidate_number s dims k w h ≡ 0 → (w ≡ 0 → ⊥) × (number_of (asked_of s.slots dims k h) ≡ 0)
-  unfolding candidate_number
-  ranged = go (settings_ok s) (eqb w 0) refl
-    where
-      go : (a b : Bool) → eqb w 0 ≡ b → cond (a && not b) (number_of (asked_of s.slots dims k h)) 11 ≡ 0 → (w ≡ 0 → ⊥) × (number_of (asked_of s.slots dims k h) ≡ 0)
-      go true true q e = absurd (omega arith)
-      go true false q e = (eqb-false w 0 q, e)
-      go false b q e = absurd (omega arith)
-
-  pub view-columns : number_of (asked_of s.slots dims k h) ≡ 0 → view.training.d ≡ length (columns_of dims k)
+  pub view-columns : asked_of s.slots dims k h ≡ Ok tt → view.training.d ≡ length (columns_of dims k)
   unfolding view_of recent_training
-  view-columns e = let t = training-is s.slots dims k h (none-refused (asked_of s.slots dims k h) e) in rw t
+  view-columns e = rw (training-is s.slots dims k h e)
 
   drawable : T (dimensions_ok dims k) → ((i : ℕ) → i < k → Held (dimension_at dims i).distribution) → (i : ℕ) → i < k → Drawable (dimension_at dims i).distribution
   unfolding dimension_ok
   drawable t held i l = let d = dimension_at dims i in (floats-fit d.distribution (held i l), bounds-shape d.distribution d.lo d.hi ((dimensions-ok dims k t).1 i l))
 
-  pub compute-words : w < 2 ^ 64 → ((i : ℕ) → i < k → Held (dimension_at dims i).distribution) → (compute_candidate_of s dims k w h).number ≡ 0
-      → (compute_candidate_of s dims k w h).drawn
+  pub compute-words : w < 2 ^ 64 → ((i : ℕ) → i < k → Held (dimension_at dims i).distribution) → (c : Proposal) → compute_candidate_of s dims k w h ≡ Ok c
+      → c.drawn
       ≡ cond ((view.reached && leb 1 view.training.d) && is_ok (fit_for view.training s.noise_variance)) (s.n_candidates * length (columns_of dims k) + (k - length (columns_of dims k))) k
-  compute-words small held e =
-      let c = passes e in
-      let r = ranged c in
-      let z = r.0 in
-      ap (λ (p : Proposal). p.drawn) (accepted-is s dims k w h c)
-      ∙ candidate-words s dims k w (pos_of_ne-zero z, small) (drawable (accepted s.slots dims k h (none-refused (asked_of s.slots dims k h) r.1)).0 held) view (view-columns r.1)
+  compute-words small held c e =
+      let m = made-by s dims k w h c e in
+      ap (λ (p : Proposal). p.drawn) (sym m.is)
+      ∙ candidate-words s dims k w (pos_of_ne-zero m.word, small) (drawable (accepted s.slots dims k h m.asked).0 held) view (view-columns m.asked)

@@ -10,8 +10,7 @@ use Rattle.common.specs.Random.{sample_random_of}
 use Rattle.scaling.specs.Scaling.{from_normalized_of}
 use Rattle.dimensions.specs.declared.DimensionInfo.{DimensionInfo}
 use Rattle.dimensions.specs.Dimensions.{dimension_at, columns_of}
-use Rattle.dimensions.specs.declared.Stored.{Stored}
-use Rattle.dimensions.specs.Empty.{empty_stored}
+use Rattle.dimensions.specs.Empty.{empty_value}
 use Rattle.proposal.specs.declared.Values.{Values}
 
 -- "Decoding scales each to the internal bounds as `gp.rs` does, then applies `from_internal`."
@@ -24,13 +23,13 @@ step_of given d u w = cond (given && continuous_of d.distribution) (record { val
 
 -- the values of some dimensions, the words drawn and the next word
 pub record Walk : Type 0 where
-  pub values : List Stored
+  pub values : List ParamValue
   pub drawn : ℕ
   pub next : ℕ
 
 -- one more
 abbrev pub walk_more : Walk → RandomDraw → Walk
-walk_more b r = record { values = b.values ++ (record { value = r.value } ∷ []); drawn = b.drawn + r.drawn; next = r.next }
+walk_more b r = record { values = b.values ++ (r.value ∷ []); drawn = b.drawn + r.drawn; next = r.next }
 
 -- the first j dimensions, one after the other; the coordinates of the point are those of the continuous dimensions in order
 unfoldable pub walk_of : Bool → List Float → List DimensionInfo → ℕ → ℕ → Walk
@@ -41,4 +40,4 @@ walk_of given point dims (suc j) w =
 
 -- in an array of 20
 abbrev pub values_in : Walk → Values
-values_in b = record { values = filled empty_stored 20 b.values; drawn = b.drawn; next = b.next }
+values_in b = record { values = filled empty_value 20 b.values; drawn = b.drawn; next = b.next }

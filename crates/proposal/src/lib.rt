@@ -5,13 +5,13 @@ pub mod points;
 pub mod proposing;
 pub mod walking;
 
-use dimensions::Stored;
+use distribution::ParamValue;
 pub use proposing::compute_candidate;
 
 // The values of the dimensions in order, the words drawn for them and the generator's next word. What lies past the dimensions is the empty value.
 #[derive(Drop)]
 pub struct Values {
-    pub values: [Stored; 20],
+    pub values: [ParamValue; 20],
     pub drawn: u64,
     pub next: u64,
 }
@@ -24,11 +24,10 @@ pub struct Point {
     pub next: u64,
 }
 
-// A new trial's values: number is 0, or a refusal's with empty values, no word drawn and the word as it was.
+// A new trial's values, the words drawn for them and the generator's next word.
 #[derive(Drop)]
 pub struct Proposal {
-    pub number: u64,
-    pub values: [Stored; 20],
+    pub values: [ParamValue; 20],
     pub drawn: u64,
     pub next: u64,
 }

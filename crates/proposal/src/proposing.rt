@@ -1,12 +1,13 @@
 // A new trial's values.
-ghost use Rattle.std.specs.Prelude.{◌≡◌, ◌&&◌, leb, ◌≤◌, ◌<◌};
+ghost use Rattle.std.specs.Prelude.{◌≡◌, not, ◌&&◌, eqb, leb, ◌≤◌, ◌<◌};
 ghost use Rattle.history.proofs.Counts.{Counts};
-ghost use Rattle.proposal.specs.Proposal.{from_point, at_random, candidate_of, refused_of, compute_candidate_of};
+ghost use Rattle.settings.specs.Settings.{settings_ok};
+ghost use Rattle.proposal.specs.Proposal.{from_point, at_random, candidate_of, compute_candidate_of};
 
 use crate::{Point, Proposal, points, walking};
-use dimensions::{DimensionInfo, Stored};
-use distribution::ParamValue;
+use dimensions::DimensionInfo;
 use history_view::View;
+use refusal::Refusal;
 use settings::Settings;
 
 // The continuous dimensions decoded from a point, the choices at random.
@@ -18,7 +19,6 @@ fn from_point(dims: [DimensionInfo; 20], k: usize, p: Point) -> Proposal
     let v = walking::walk(true, x, dims, k, p.next);
     let values = v.values;
     Proposal {
-        number: 0,
         values,
         drawn: p.drawn + v.drawn,
         next: v.next,
@@ -33,7 +33,6 @@ fn at_random(dims: [DimensionInfo; 20], k: usize, word: u64) -> Proposal
     let v = walking::walk(false, [0.0; 20], dims, k, word);
     let values = v.values;
     Proposal {
-        number: 0,
         values,
         drawn: v.drawn,
         next: v.next,
@@ -61,38 +60,27 @@ fn candidate(s: Settings, dims: [DimensionInfo; 20], k: usize, word: u64, v: Vie
     at_random(dims, k, word)
 }
 
-// A refusal: its number, no word drawn and the word as it was.
-fn refused(number: u64, word: u64) -> Proposal
-    ensures { result ≡ refused_of number word }
+// Whether settings are in range and a word is not 0.
+fn takes(s: Settings, word: u64) -> bool
+    ensures { result ≡ (settings_ok s && not (eqb word 0)) }
 {
-    Proposal {
-        number,
-        values: [Stored {
-            value: ParamValue::Float(0.0),
-        }; 20],
-        drawn: 0,
-        next: word,
-    }
+    settings::in_range(s) && word != 0
 }
 
 // The values of a new trial at a generator word: from a model of the history where its rows reach start-up and a dimension is continuous, else at random.
+#[tactic(auto, using(crate::proofs::Numbers::candidate_asks), unfolding(crate::specs::Proposal::compute_candidate_of))]
 pub fn compute_candidate(
     s: Settings,
     dims: [DimensionInfo; 20],
     k: usize,
     word: u64,
     h: &[u64],
-) -> Proposal
+) -> Result<Proposal, Refusal>
     ensures { result ≡ compute_candidate_of s dims k word h.now }
 {
-    if !settings::in_range(s) {
-        return refused(11, word);
+    if !takes(s, word) {
+        return Err(Refusal::OutOfDomain);
     }
-    if word == 0 {
-        return refused(11, word);
-    }
-    match history_view::view_of(s.slots as usize, s.n_startup_trials, dims, k, h) {
-        Ok(v) => candidate(s, dims, k, word, v),
-        Err(refusal) => refused(refusal.number(), word),
-    }
+    let view = history_view::view_of(s.slots as usize, s.n_startup_trials, dims, k, h)?;
+    Ok(candidate(s, dims, k, word, view))
 }

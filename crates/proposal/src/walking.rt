@@ -5,7 +5,7 @@ ghost use Rattle.proposal.specs.Values.{decode_of, step_of, walk_of, values_in};
 
 use crate::Values;
 use common::RandomDraw;
-use dimensions::{DimensionInfo, Stored};
+use dimensions::DimensionInfo;
 use distribution::{Distribution, ParamValue};
 
 // 1 for a continuous dimension, else 0.
@@ -59,9 +59,7 @@ pub(crate) fn walk(
     requires { k ≤ 20 }
     ensures { result ≡ values_in (walk_of given point dims k word) }
 {
-    let mut values = [Stored {
-        value: ParamValue::Float(0.0),
-    }; 20];
+    let mut values = [ParamValue::Float(0.0); 20];
     let mut drawn = 0;
     let mut next = word;
     let mut c = 0;
@@ -69,8 +67,7 @@ pub(crate) fn walk(
         let dim = dims[j];
         let distribution = dim.distribution;
         let r = step(given, dim, point[c], next);
-        let value = r.value;
-        values[j] = Stored { value };
+        values[j] = r.value;
         drawn += r.drawn;
         next = r.next;
         c += column_width(distribution);

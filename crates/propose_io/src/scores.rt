@@ -105,8 +105,8 @@ fn write_trial(rt: HostRuntime, s: &Sampler, trial: u64, h: &[u64]) -> ControlFl
 // Whether a trial is new: discovery had ended before the call, and the call gave the trial its place.
 fn is_new(before: &Sampler, after: &Sampler, trial: u64) -> bool {
     before.active
-        && sampler_state::trial_place(before.places, trial) == 32
-        && sampler_state::trial_place(after.places, trial) < 32
+        && sampler_state::trial_place(&before.places, trial).is_none()
+        && sampler_state::trial_place(&after.places, trial).is_some()
 }
 
 // The trial of a step's line, its first word.

@@ -1,12 +1,13 @@
 // One line after the other.
 ghost use Rattle.std.specs.Prelude.{◌≡◌, cond, List, ℕ, min, length};
 ghost use Rattle.refusal.specs.declared.Refusal.{Refusal};
-ghost use Rattle.text_laws.specs.Steps.{Reading, reading_of, stepped_of, awaits, ends, named, settings_of, settings_line, row_line, history_line, call_line, history_named, sampled_of, answered_of, start_of, step_of, finish_at, finish_of};
+ghost use Rattle.text_laws.specs.Steps.{Reading, reading_of, stepped_of, awaits, ends, named, settings_of, settings_line, row_line, history_line, call_line, history_named, sampled_of, value_line, told_line, answered_of, start_of, step_of, finish_at, finish_of};
 ghost use Rattle.text_laws.specs.declared.Event.{Event};
 ghost use Rattle.text_laws.specs.declared.Stage.{Stage};
 
+use distribution::ParamValue;
 use refusal::Refusal;
-use sampler_laws::Sampled;
+use sampler_laws::{Answer, Sampled};
 use settings::Settings;
 use text_laws::{Event, Reader, Stage, Step};
 
@@ -67,16 +68,17 @@ fn settings_line(r: Reader, line: &[u8]) -> Step
     if !propose_lines::read_words(line, 5, &mut words, 0) {
         return ending(Refusal::Text, r);
     }
-    let made = sampler_state::build(settings_of(words));
-    if made.number != 0 {
-        return ending(Refusal::Settings, r);
+    match sampler_state::build(settings_of(words)) {
+        Ok(sampler) => awaiting(
+            Reader {
+                stage: Stage::HistoryNames,
+                sampler,
+                ..r
+            },
+            Event::Settings,
+        ),
+        Err(refusal) => ending(refusal, r),
     }
-    let fresh = Reader {
-        stage: Stage::HistoryNames,
-        sampler: made.sampler,
-        ..r
-    };
-    awaiting(fresh, Event::Settings)
 }
 
 // Whether a line has the history's names for the sampler.
@@ -131,11 +133,32 @@ fn history_line(r: Reader, line: &[u8], history: &mut [u64; 8192]) -> Step
     row_line(r, line, history)
 }
 
+// The line of an accepted call.
+fn value_line(trial: u64, value: Option<ParamValue>, drawn: u64) -> [u8; 68]
+    ensures { result ≡ value_line trial value drawn }
+{
+    match value {
+        Some(v) => {
+            propose_lines::answer_line(trial, distribution::kind(v), distribution::word(v), drawn)
+        }
+        None => propose_lines::answer_line(trial, 0, 0, drawn),
+    }
+}
+
+// The line of an answer.
+fn told_line(trial: u64, answer: Result<Answer, Refusal>) -> [u8; 68]
+    ensures { result ≡ told_line trial answer }
+{
+    match answer {
+        Ok(a) => value_line(trial, a.value, a.drawn),
+        Err(refusal) => propose_lines::answer_line(trial, 0, refusal.number(), 0),
+    }
+}
+
 // An answer's line, and the sampler that it handed back.
 fn answered(trial: u64, a: Sampled, count: usize) -> Step
     ensures { (h : List ℕ) → stepped_of result h ≡ answered_of trial a (reading_of (record { stage = Stage.Calls; sampler = a.sampler; count = count }) h) }
 {
-    let value = a.value;
     Step {
         reader: Reader {
             stage: Stage::Calls,
@@ -143,12 +166,7 @@ fn answered(trial: u64, a: Sampled, count: usize) -> Step
             count,
         },
         event: Event::Call,
-        line: Some(propose_lines::answer_line(
-            trial,
-            distribution::kind(value),
-            distribution::word(value),
-            a.drawn,
-        )),
+        line: Some(told_line(trial, a.answer)),
     }
 }
 
@@ -185,10 +203,11 @@ fn call_line(r: Reader, line: &[u8], history: &[u64; 8192]) -> Step
 }
 
 // A reader at the start of the input.
+#[tactic(auto, unfolding(text_laws::specs::Steps::start_of))]
 pub fn start() -> Reader
     ensures { (h : List ℕ) → reading_of result h ≡ start_of }
 {
-    let made = sampler_state::build(Settings {
+    let sampler = sampler_state::fresh(Settings {
         n_startup_trials: 0,
         n_candidates: 0,
         noise_variance: 0.0,
@@ -197,7 +216,7 @@ pub fn start() -> Reader
     });
     Reader {
         stage: Stage::SettingsNames,
-        sampler: made.sampler,
+        sampler,
         count: 0,
     }
 }

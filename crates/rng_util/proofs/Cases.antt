@@ -4,9 +4,11 @@ use mathlib.Core.Bool.{true, false}
 use mathlib.Core.List.{[], ◌∷◌}
 use Prim.Native.Nat.{◌^◌}
 use lib.IntN.{pos, negsuc}
+use Rattle.std.specs.Prelude.{Ok, Err}
+use Rattle.refusal.specs.declared.Refusal.TheVariants.{OutOfDomain}
 use lib.Ieee.{binary64, of_bits, of_int, round, div}
 use Rattle.rng_util.specs.Generator.{xor_left, xor_right, next_of, moved_of, stream_of}
-use Rattle.rng_util.specs.Draws.{unit_of, whole_of, range_ok, word_draw_of, unit_draw_of, whole_draw_of}
+use Rattle.rng_util.specs.Draws.{unit_of, whole_of, range_ok, word_draw_of, unit_draw_of, whole_draw_of, drawn_by, word_after}
 
 -- a bit shifted out on the left is gone
 abbrev Words : Type 0
@@ -40,13 +42,15 @@ values = (refl, refl, refl, refl, refl, refl, refl)
 -- a draw, and a refused one
 abbrev Drawn : Type 0
 Drawn =
-    (word_draw_of 1 ≡ record { number = 0; value = 0x40822041; drawn = 1; next = 0x40822041 })
-    × (word_draw_of 0 ≡ record { number = 11; value = 0; drawn = 0; next = 0 })
-    × (unit_draw_of 0x40822041 ≡ record { number = 0; value = of_bits binary64 0x3fb00041060c0110; drawn = 1; next = 0x100041060c011441 })
-    × (unit_draw_of 0 ≡ record { number = 11; value = of_bits binary64 0; drawn = 0; next = 0 })
-    × (whole_draw_of 0x40822041 (pos 0) (pos 9) ≡ record { number = 0; value = pos 5; drawn = 1; next = 0x100041060c011441 })
-    × (whole_draw_of 1 (pos 1) (pos 0) ≡ record { number = 11; value = pos 0; drawn = 0; next = 1 })
+    (word_draw_of 1 ≡ Ok (record { value = 0x40822041; drawn = 1; next = 0x40822041 }))
+    × (word_draw_of 0 ≡ Err OutOfDomain)
+    × (unit_draw_of 0x40822041 ≡ Ok (record { value = of_bits binary64 0x3fb00041060c0110; drawn = 1; next = 0x100041060c011441 }))
+    × (unit_draw_of 0 ≡ Err OutOfDomain)
+    × (whole_draw_of 0x40822041 (pos 0) (pos 9) ≡ Ok (record { value = pos 5; drawn = 1; next = 0x100041060c011441 }))
+    × (whole_draw_of 1 (pos 1) (pos 0) ≡ Err OutOfDomain)
+    × (drawn_by (word_draw_of 0) ≡ 0)
+    × (word_after 7 (whole_draw_of 7 (pos 1) (pos 0)) ≡ 7)
 
 drawn : Drawn
 unfolding word_draw_of unit_draw_of whole_draw_of unit_of whole_of range_ok next_of of_bits of_int round div
-drawn = (refl, refl, refl, refl, refl, refl)
+drawn = (refl, refl, refl, refl, refl, refl, refl, refl)

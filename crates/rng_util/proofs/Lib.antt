@@ -1,5 +1,4 @@
 mod Cases
-mod Cond
 pub mod Moves
 pub mod Nonzero
 pub mod Stream

@@ -1,23 +1,36 @@
 -- Drawing is moving, for each draw: by cases on whether it is refused.
-use mathlib.Core.Path.{◌≡◌, refl}
-use mathlib.Core.Bool.{not, ◌||◌}
+use mathlib.Core.Path.{refl}
+use mathlib.Core.Bool.{Bool, true, false, cond}
+use Prim.Native.Nat.{ℕ}
 use lib.Dec.{eqb}
-use borrow.Author.Tests.{eqb-false}
-use Rattle.rng_util.specs.declared.WordDraw.{WordDraw}
-use Rattle.rng_util.specs.declared.UnitDraw.{UnitDraw}
-use Rattle.rng_util.specs.declared.WholeDraw.{WholeDraw}
-use Rattle.rng_util.specs.Generator.{moved_of}
-use Rattle.rng_util.specs.Draws.{unit_of, whole_of, range_ok, word_draw_of, unit_draw_of, whole_draw_of}
-use Rattle.rng_util.specs.Moves.{DrawingIsMoving}
-use Rattle.rng_util.proofs.Cond.{cond_ind}
+use Rattle.std.specs.Prelude.{Result, Ok, Err}
+use Rattle.refusal.specs.declared.Refusal.{Refusal}
+use Rattle.refusal.specs.declared.Refusal.TheVariants.{OutOfDomain}
+use Rattle.rng_util.specs.declared.Draw.{Draw}
+use Rattle.rng_util.specs.Generator.{next_of, moved_of}
+use Rattle.rng_util.specs.Draws.{unit_of, whole_of, range_ok, read_by, word_draw_of, unit_draw_of, whole_draw_of}
+use Rattle.rng_util.specs.Moves.{Moves, DrawingIsMoving}
 
-pub drawing-is-moving : DrawingIsMoving
-unfolding moved_of word_draw_of unit_draw_of whole_draw_of
-drawing-is-moving = record {
-  word-moves = λ w. cond_ind (λ (r : WordDraw). r.next ≡ moved_of r.drawn w) (eqb w 0) (λ _. refl) (λ _. refl);
-  word_value = λ w. cond_ind (λ (r : WordDraw). r.number ≡ 0 → r.value ≡ moved_of 1 w) (eqb w 0) (λ _ e. absurd (eqb-false 11 0 refl e)) (λ _ e. refl);
-  unit-moves = λ w. cond_ind (λ (r : UnitDraw). r.next ≡ moved_of r.drawn w) (eqb w 0) (λ _. refl) (λ _. refl);
-  unit-value = λ w. cond_ind (λ (r : UnitDraw). r.number ≡ 0 → r.value ≡ unit_of (moved_of 1 w)) (eqb w 0) (λ _ e. absurd (eqb-false 11 0 refl e)) (λ _ e. refl);
-  whole-moves = λ w a b. cond_ind (λ (r : WholeDraw). r.next ≡ moved_of r.drawn w) (eqb w 0 || not (range_ok a b)) (λ _. refl) (λ _. refl);
-  whole-value = λ w a b. cond_ind (λ (r : WholeDraw). r.number ≡ 0 → r.value ≡ whole_of a b (moved_of 1 w)) (eqb w 0 || not (range_ok a b)) (λ _ e. absurd (eqb-false 11 0 refl e)) (λ _ e. refl);
+-- so for the next word, and for what is read from a draw for which it is so
+word : (t : Bool) (w : ℕ) → Moves (λ n. n) w (cond t (Err OutOfDomain) (Ok (record { value = next_of w; drawn = 1; next = next_of w })))
+unfolding moved_of
+word true w = record { next = refl; value = λ d e. cc }
+word false w = record { next = refl; value = λ d e. cc }
+
+read : {A : Type 0} (f : ℕ → A) (w : ℕ) (r : Result (Draw ℕ) Refusal) → Moves (λ n. n) w r → Moves f w (read_by f r)
+unfolding moved_of
+read f w (Ok d) m = record { next = m.next; value = λ d' e. let v = m.value d refl in cc }
+read f w (Err x) m = record { next = refl; value = λ d e. cc }
+
+pick : {A : Type 0} (t : Bool) (f : ℕ → A) (w : ℕ) (r : Result (Draw A) Refusal) → Moves f w r → Moves f w (cond t r (Err OutOfDomain))
+unfolding moved_of
+pick true f w r m = m
+pick false f w r m = record { next = refl; value = λ d e. cc }
+
+pub drawing_is_moving : DrawingIsMoving
+unfolding word_draw_of unit_draw_of whole_draw_of
+drawing_is_moving = record {
+  word = λ w. word (eqb w 0) w;
+  unit = λ w. read unit_of w _ (word (eqb w 0) w);
+  whole = λ w a b. pick (range_ok a b) (whole_of a b) w _ (read (whole_of a b) w _ (word (eqb w 0) w));
 }

@@ -8,6 +8,9 @@ use native.Mathlib.Omega.{arith}
 use lib.Dec.{eqb}
 use lib.Bits.{bit_xor, xor_lt, xor_add_and, and_le_l, and_le_r}
 use borrow.Author.Tests.{ne_eqb}
+use Rattle.std.specs.Prelude.{Float, Ok}
+use Rattle.rng_util.specs.declared.Draw.{Draw}
+use Rattle.rng_util.specs.Draws.{unit_of, word_draw_of, unit_draw_of}
 use Rattle.rng_util.specs.Generator.{xor_left, xor_right, next_of, moved_of}
 
 -- a generator word that no draw refuses
@@ -56,3 +59,11 @@ pub moved-nonzero : (n w : ℕ) → Nonzero w → Nonzero (moved_of n w)
 unfolding moved_of
 moved-nonzero zero w h = h
 moved-nonzero (suc n) w h = next-nonzero (moved_of n w) (moved-nonzero n w h)
+
+-- the unit float drawn after n moves: no draw there is refused
+abbrev pub unit_after : ℕ → ℕ → Draw Float
+unit_after n w = record { value = unit_of (moved_of (suc n) w); drawn = 1; next = moved_of (suc n) w }
+
+pub unit-drawn : (n w : ℕ) → Nonzero w → unit_draw_of (moved_of n w) ≡ Ok (unit_after n w)
+unfolding word_draw_of unit_draw_of moved_of
+unit-drawn n w h = rw (nonzero-test (moved_of n w) (moved-nonzero n w h))

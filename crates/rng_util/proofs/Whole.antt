@@ -1,19 +1,21 @@
 -- A whole number drawn in a..=b lies there: b − a is a number d, the remainder is at most d, and a sum grows with its second part.
-use mathlib.Core.Path.{◌≡◌, refl, sym, ap, ◌∙◌}
-use mathlib.Core.Bool.{Bool, true, false, not, ◌&&◌, ◌||◌, cond}
+use mathlib.Core.Path.{◌≡◌, refl, sym, ap, subst, ◌∙◌}
+use mathlib.Core.Bool.{Bool, true, false, ◌&&◌, cond}
 use Prim.Native.Nat.{ℕ, zero, suc, ◌+◌, ◌-◌, ◌%◌, ◌^◌, ◌≤◌, suc-le-suc, zero-le}
 use native.Mathlib.Nat.{mod-lt}
 use native.Mathlib.Omega.{arith}
-use lib.Dec.{T, eqb, leb, ltb, leb→le, le→leb}
+use lib.Dec.{T, leb, ltb, leb→le, le→leb}
 use lib.IntN.{ℤ, pos, negsuc, sub_ℕ, ◌+ℤ◌, ◌-ℤ◌, nat_abs, +ℤ_idr, +ℤ_comm, -ℤ-+ℤ_cancel}
 use lib.Signed.{le_z, mag}
 use lib.Ieee.Fits.{and_l, and_r}
 use mir.Syntax.{w64}
 use mir.Val.{SFits}
-use borrow.Author.Tests.{ltb-true, ltb-false, le-ltb, eqb-false}
-use Rattle.rng_util.specs.declared.WholeDraw.{WholeDraw}
-use Rattle.rng_util.specs.Draws.{whole_of, range_ok, whole_draw_of}
-use Rattle.rng_util.proofs.Cond.{cond_ind}
+use borrow.Author.Tests.{ltb-true, ltb-false, le-ltb}
+use Rattle.std.specs.Prelude.{Result, Ok, Err}
+use Rattle.refusal.specs.declared.Refusal.{Refusal}
+use Rattle.refusal.specs.declared.Refusal.TheVariants.{OutOfDomain}
+use Rattle.rng_util.specs.declared.Draw.{Draw}
+use Rattle.rng_util.specs.Draws.{whole_of, range_ok, read_by, word_draw_of, whole_draw_of}
 
 -- v lies in a..=b
 abbrev pub Between : ℤ → ℤ → ℤ → Type 0
@@ -93,13 +95,11 @@ module _ (a b : ℤ) (ok : T (range_ok a b)) where
   whole-fits word = record { sfits = omega (arith, between-small (2 ^ 53) a b (whole_of a b word) ends.low ends.high (whole-between word)) }
 
 -- the same of an accepted draw
-pub whole-draw-between : (w : ℕ) (a b : ℤ) → (whole_draw_of w a b).number ≡ 0 → Between a b (whole_draw_of w a b).value
+pub whole-draw-between : (w : ℕ) (a b : ℤ) (d : Draw ℤ) → whole_draw_of w a b ≡ Ok d → Between a b d.value
 unfolding whole_draw_of
-whole-draw-between w a b =
-    cond_ind (λ (r : WholeDraw). r.number ≡ 0 → Between a b r.value) (eqb w 0 || not (range_ok a b))
-    (λ _ e. absurd (eqb-false 11 0 refl e)) (λ t e. whole-between a b (accepted (eqb w 0) (range_ok a b) t) _)
+whole-draw-between w a b d = go (range_ok a b) refl (word_draw_of w)
   where
-    accepted : (z ok : Bool) → T (not (z || not ok)) → T ok
-    accepted true ok t = absurd t
-    accepted false true t = tt
-    accepted false false t = t
+    go : (t : Bool) → range_ok a b ≡ t → (r : Result (Draw ℕ) Refusal) → cond t (read_by (whole_of a b) r) (Err OutOfDomain) ≡ Ok d → Between a b d.value
+    go true t (Ok x) e = let v : whole_of a b x.value ≡ d.value = cc in subst (Between a b) v (whole-between a b (subst T (sym t) tt) x.value)
+    go true t (Err x) e = absurd (cc)
+    go false t r e = absurd (cc)

@@ -6,29 +6,27 @@ ghost use Rattle.rng_util.specs.Generator.{next_of};
 ghost use Rattle.rng_util.specs.Draws.{range_ok, whole_of, word_draw_of, unit_draw_of, whole_draw_of};
 ghost use Rattle.rng_util.specs.Moves.{DrawingIsMoving};
 
-// What a draw answers: number is 0, or the refusal's number with the value 0, no word drawn and the word as it was.
+use refusal::Refusal;
+
+// A value drawn, the words drawn for it and the generator's next word.
 #[derive(Clone, Copy)]
-pub struct WordDraw {
-    pub number: u64,
-    pub value: u64,
+pub struct Draw<T> {
+    pub value: T,
     pub drawn: u64,
     pub next: u64,
 }
 
-#[derive(Clone, Copy)]
-pub struct UnitDraw {
-    pub number: u64,
-    pub value: f64,
-    pub drawn: u64,
-    pub next: u64,
-}
-
-#[derive(Clone, Copy)]
-pub struct WholeDraw {
-    pub number: u64,
-    pub value: i64,
-    pub drawn: u64,
-    pub next: u64,
+impl<T: Copy> Draw<T> {
+    // Another value, of the same words.
+    pub fn with<U>(self, value: U) -> Draw<U>
+        ensures { result ≡ record { value = value; drawn = self.drawn; next = self.next } }
+    {
+        Draw {
+            value,
+            drawn: self.drawn,
+            next: self.next,
+        }
+    }
 }
 
 // One move: the shifts left 13, right 7, left 17.
@@ -41,45 +39,28 @@ fn step(w: u64) -> u64
 }
 
 // The next word.
-pub fn next_word(w: u64) -> WordDraw
+#[tactic(auto, unfolding(crate::specs::Draws::word_draw_of))]
+pub fn next_word(w: u64) -> Result<Draw<u64>, Refusal>
     ensures { result ≡ word_draw_of w }
 {
     if w == 0 {
-        return WordDraw {
-            number: 11,
-            value: 0,
-            drawn: 0,
-            next: w,
-        };
+        return Err(Refusal::OutOfDomain);
     }
-    let n = step(w);
-    WordDraw {
-        number: 0,
-        value: n,
+    let next = step(w);
+    Ok(Draw {
+        value: next,
         drawn: 1,
-        next: n,
-    }
+        next,
+    })
 }
 
 // A unit float: the word's 52 highest bits, over 2^52.
-pub fn unit_float(w: u64) -> UnitDraw
+#[tactic(auto, unfolding(crate::specs::Draws::unit_draw_of))]
+pub fn unit_float(w: u64) -> Result<Draw<f64>, Refusal>
     ensures { result ≡ unit_draw_of w }
 {
-    if w == 0 {
-        return UnitDraw {
-            number: 11,
-            value: 0.0,
-            drawn: 0,
-            next: w,
-        };
-    }
-    let n = step(w);
-    UnitDraw {
-        number: 0,
-        value: (n >> 12) as f64 / 4503599627370496.0,
-        drawn: 1,
-        next: n,
-    }
+    let r = next_word(w)?;
+    Ok(r.with((r.value >> 12) as f64 / 4503599627370496.0))
 }
 
 // Whether a whole number can be drawn in a..=b. With a <= b, one limit for each end is enough: 2^53 in magnitude.
@@ -99,27 +80,19 @@ fn whole_at(word: u64, a: i64, b: i64) -> i64
 }
 
 // A whole number in a..=b.
-pub fn whole_number(w: u64, a: i64, b: i64) -> WholeDraw
+#[tactic(auto, unfolding(crate::specs::Draws::whole_draw_of))]
+pub fn whole_number(w: u64, a: i64, b: i64) -> Result<Draw<i64>, Refusal>
     ensures { result ≡ whole_draw_of w a b }
 {
-    if w == 0 || !range_ok(a, b) {
-        return WholeDraw {
-            number: 11,
-            value: 0,
-            drawn: 0,
-            next: w,
-        };
+    if !range_ok(a, b) {
+        return Err(Refusal::OutOfDomain);
     }
-    let n = step(w);
-    WholeDraw {
-        number: 0,
-        value: whole_at(n, a, b),
-        drawn: 1,
-        next: n,
-    }
+    let r = next_word(w)?;
+    Ok(r.with(whole_at(r.value, a, b)))
 }
 
 // Drawing is moving: the words drawn are the generator's moves.
+#[tactic(auto, using(crate::proofs::Moves::drawing_is_moving))]
 pub fn drawing_is_moving()
     ensures { DrawingIsMoving }
 {}

@@ -6,7 +6,7 @@ use Rattle.std.specs.Float.Ieee.{of_bits, of_int, to_bits}
 use Rattle.exponential.specs.Exp.{exp_of}
 use Rattle.logarithm.specs.Ln.{ln_of}
 use Rattle.arith.specs.Lists.{filled}
-use Rattle.arith.specs.Outcome.{word_of}
+use Rattle.arith.specs.Outcome.{word_of, made}
 use Rattle.root.specs.Sqrt.{sqrt_of}
 use Rattle.distribution.specs.declared.Distribution.{Distribution}
 use Rattle.distribution.specs.declared.ParamValue.{ParamValue}
@@ -16,6 +16,7 @@ use Rattle.dimensions.specs.Dimensions.{dimension_of}
 use Rattle.param_mapping.specs.Mapping.{mapping_of}
 use Rattle.acquisition.specs.Improvement.{expected_improvement_of}
 use Rattle.acquisition.specs.Normal.{norm_cdf_of}
+use Rattle.rng_util.specs.declared.Draw.{Draw}
 use Rattle.rng_util.specs.Draws.{whole_draw_of}
 use Rattle.rng_util.specs.Generator.{stream_of}
 
@@ -23,22 +24,26 @@ use Rattle.rng_util.specs.Generator.{stream_of}
 abbrev pub ints : ℤ → ℤ → ℤ → Distribution
 ints low high step = Distribution.Int (record { low = low; high = high; log_scale = false; stepped = lt_z (pos 0) step; step = step })
 
+-- what is drawn
+abbrev value : {A : Type 0} → Draw A → A
+value d = d.value
+
 pub record SampleBook : Type 0 where
   -- (a) words from 1: 40822041, 100041060c011441 hexadecimal
   pub a : stream_of 2 1 ≡ 0x40822041 ∷ 0x100041060c011441 ∷ []
   -- (b) first word among 5 choices gives 1
-  pub b : (whole_draw_of 1 (pos 0) (pos 4)).value ≡ pos 1
+  pub b : made value (whole_draw_of 1 (pos 0) (pos 4)) ≡ Ok (pos 1)
   -- (c) the second in 0..=9 gives 5
-  pub c : (whole_draw_of 0x40822041 (pos 0) (pos 9)).value ≡ pos 5
+  pub c : made value (whole_draw_of 0x40822041 (pos 0) (pos 9)) ≡ Ok (pos 5)
   -- (b) and (c) again, as values of a choice and of an int
-  pub b-choice : (sample_random_of 1 (Distribution.Categorical (record { n_choices = 5 }))).value ≡ ParamValue.Categorical 1
-  pub c-int : (sample_random_of 0x40822041 (ints (pos 0) (pos 9) (pos 0))).value ≡ ParamValue.Int (pos 5)
+  pub b-choice : made value (sample_random_of 1 (Distribution.Categorical (record { n_choices = 5 }))) ≡ Ok (ParamValue.Categorical 1)
+  pub c-int : made value (sample_random_of 0x40822041 (ints (pos 0) (pos 9) (pos 0))) ≡ Ok (ParamValue.Int (pos 5))
   -- (d) int 10..20 step 4 decodes 16 to 18
-  pub d : from_internal_of (of_int binary64 (pos 16)) (ints (pos 10) (pos 20) (pos 4)) ≡ ParamValue.Int (pos 18)
+  pub d : from_internal_of (of_int binary64 (pos 16)) (ints (pos 10) (pos 20) (pos 4)) ≡ Ok (ParamValue.Int (pos 18))
   -- (e) 21 to 20, off the grid
-  pub e : from_internal_of (of_int binary64 (pos 21)) (ints (pos 10) (pos 20) (pos 4)) ≡ ParamValue.Int (pos 20)
+  pub e : from_internal_of (of_int binary64 (pos 21)) (ints (pos 10) (pos 20) (pos 4)) ≡ Ok (ParamValue.Int (pos 20))
   -- (f) int −5..5 decodes −2.5 to −3
-  pub f : from_internal_of (of_bits binary64 0xc004000000000000) (ints (negsuc 4) (pos 5) (pos 0)) ≡ ParamValue.Int (negsuc 2)
+  pub f : from_internal_of (of_bits binary64 0xc004000000000000) (ints (negsuc 4) (pos 5) (pos 0)) ≡ Ok (ParamValue.Int (negsuc 2))
   -- (g) sqrt(2) = 3ff6a09e667f3bcd
   pub g : to_bits binary64 (sqrt_of (of_bits binary64 0x4000000000000000)) ≡ 0x3ff6a09e667f3bcd
   -- (h) exp(0) = 1

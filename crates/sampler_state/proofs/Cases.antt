@@ -1,7 +1,7 @@
 -- Places looked up, judged and counted, computed: a trial's place, the empty one where it has none, and where a place is written. Assumes nothing.
 use Prim.Native.Nat.{ℕ}
 use mathlib.Core.Path.{◌≡◌, refl}
-use mathlib.Core.Bool.{Bool, true, false}
+use mathlib.Core.Bool.{true, false}
 use mathlib.Core.List.{List, [], ◌∷◌}
 use lib.ListN.{replicate, set}
 use lib.IntN.{pos}
@@ -10,21 +10,22 @@ use Rattle.arith.specs.Lists.{every, filled, place_of, places_of}
 use Rattle.distribution.specs.declared.Distribution.{Distribution}
 use Rattle.distribution.specs.declared.ParamValue.{ParamValue}
 use Rattle.dimensions.specs.declared.DimensionInfo.{DimensionInfo}
-use Rattle.dimensions.specs.Empty.{empty_stored}
+use Rattle.dimensions.specs.Empty.{empty_value}
+use Rattle.std.specs.Prelude.{Option, Some}
 use Rattle.sampler_state.specs.declared.Place.{Place}
 use Rattle.sampler_state.specs.State.{empty_place, trial_place, free_place, held_by, spot_for, taken_count, place_ok, trials_once}
 
 -- a place of a trial with the values 2 and 7 and a next dimension
-abbrev place : Bool → ℕ → ℕ → Place
-place taken trial next = record { taken = taken; trial = trial; values = filled empty_stored 20 ((record { value = ParamValue.Categorical 2 }) ∷ (record { value = ParamValue.Int (pos 7) }) ∷ []); next_dim = next }
+abbrev place : ℕ → ℕ → Option Place
+place trial next = Some (record { trial = trial; values = filled empty_value 20 (ParamValue.Categorical 2 ∷ ParamValue.Int (pos 7) ∷ []); next_dim = next })
 
--- trial 7 in place 1 and trial 8 in place 2; place 0 is free, though trial 9's number stands in it
-abbrev some : List Place
-some = set (set (set (replicate 32 empty_place) 0 (place false 9 1)) 1 (place true 7 2)) 2 (place true 8 1)
+-- trial 7 in place 1 and trial 8 in place 2; place 0 is free
+abbrev some : List (Option Place)
+some = set (set (replicate 32 empty_place) 1 (place 7 2)) 2 (place 8 1)
 
 -- every place is trial 7's
-abbrev full : List Place
-full = replicate 32 (place true 7 1)
+abbrev full : List (Option Place)
+full = replicate 32 (place 7 1)
 
 -- a choice of 5 and an int from 0 to 9
 abbrev dims : List DimensionInfo
@@ -35,8 +36,8 @@ dims =
 
 abbrev Places : Type 0
 Places =
-    -- a trial's own place, not the first one that is taken; a free one is found for no trial
-    (held_by some 8 ≡ place true 8 1)
+    -- a trial's own place, not the first one that is taken; none is found for a trial without one
+    (held_by some 8 ≡ place 8 1)
     × (held_by some 9 ≡ empty_place)
     × (trial_place some 9 ≡ 32)
     × (free_place some ≡ 0)
@@ -49,17 +50,17 @@ Places =
     × (taken_count full ≡ 32)
     -- one trial twice
     × (trials_once some ≡ true)
-    × (trials_once (set some 5 (place true 8 1)) ≡ false)
-    × (trials_once (set some 5 (place false 8 1)) ≡ true)
-    -- the next dimension of a taken place is from 1 to the count; nothing of a free one is judged
-    × (place_ok true dims 2 (place true 7 0) ≡ false)
-    × (place_ok true dims 2 (place true 7 1) ≡ true)
-    × (place_ok true dims 2 (place true 7 2) ≡ true)
-    × (place_ok true dims 2 (place true 7 3) ≡ false)
-    × (place_ok true dims 2 (place false 7 3) ≡ true)
+    × (trials_once (set some 5 (place 8 1)) ≡ false)
+    × (trials_once (set some 5 empty_place) ≡ true)
+    -- the next dimension of a taken place is from 1 to the count; a free one is not judged
+    × (place_ok true dims 2 (place 7 0) ≡ false)
+    × (place_ok true dims 2 (place 7 1) ≡ true)
+    × (place_ok true dims 2 (place 7 2) ≡ true)
+    × (place_ok true dims 2 (place 7 3) ≡ false)
+    × (place_ok true dims 2 empty_place ≡ true)
     -- in discovery no place is taken, and a value is of its dimension's kind
-    × (place_ok false dims 2 (place true 7 1) ≡ false)
-    × (place_ok true dims 2 (record { taken = true; trial = 7; values = filled empty_stored 20 []; next_dim = 1 }) ≡ false)
+    × (place_ok false dims 2 (place 7 1) ≡ false)
+    × (place_ok true dims 2 (Some (record { trial = 7; values = filled empty_value 20 []; next_dim = 1 })) ≡ false)
 
 places : Places
 unfolding trial_place free_place spot_for taken_count place_ok trials_once every place_of places_of

@@ -11,9 +11,7 @@ unfolding taken_of
 same_rule (Distribution.Float d) (ParamValue.Float x) n = refl
 same_rule (Distribution.Float d) (ParamValue.Int z) n = refl
 same_rule (Distribution.Float d) (ParamValue.Categorical i) n = refl
-same_rule (Distribution.Float d) (ParamValue.Refused r) n = refl
 same_rule (Distribution.Int d) v n = absurd (n d refl)
 same_rule (Distribution.Categorical d) (ParamValue.Float x) n = refl
 same_rule (Distribution.Categorical d) (ParamValue.Int z) n = refl
 same_rule (Distribution.Categorical d) (ParamValue.Categorical i) n = refl
-same_rule (Distribution.Categorical d) (ParamValue.Refused r) n = refl

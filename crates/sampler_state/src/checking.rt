@@ -2,11 +2,11 @@
 ghost use Rattle.std.specs.Prelude.{◌≡◌, not, ◌&&◌, ◌||◌, ◌≤◌, eqb, leb, length};
 ghost use Rattle.std.specs.List.{list_all, zip};
 ghost use Rattle.settings.specs.Settings.{settings_ok};
-ghost use Rattle.sampler_state.specs.State.{taken, holds, trials_once};
+ghost use Rattle.sampler_state.specs.State.{same_trial, trials_once};
 ghost use Rattle.sampler_state.specs.State.{stored_ok, progress_ok, place_ok, sampler_ok};
 
-use crate::{Place, Sampler};
-use dimensions::{DimensionInfo, Stored};
+use crate::{Place, Sampler, places};
+use dimensions::DimensionInfo;
 use distribution::{Distribution, IntDistribution, ParamValue};
 
 // Whether an int's value lies between its ends.
@@ -40,12 +40,12 @@ struct Judge<'a> {
 
 impl Judge<'_> {
     // Whether there is a value in range for each dimension.
-    fn values_ok(&self, values: &[Stored; 20]) -> bool
-        ensures { result ≡ list_all (λ p. stored_ok p.0.distribution p.1.value) (zip self.now.dimensions.now values.now) }
+    fn values_ok(&self, values: &[ParamValue; 20]) -> bool
+        ensures { result ≡ list_all (λ p. stored_ok p.0.distribution p.1) (zip self.now.dimensions.now values.now) }
     {
-        self.dimensions.iter().zip(values).all(|(dimension, stored)| value_ok(
+        self.dimensions.iter().zip(values).all(|(dimension, value)| value_ok(
             dimension.distribution,
-            stored.value,
+            *value,
         ))
     }
 
@@ -58,14 +58,17 @@ impl Judge<'_> {
 
     // Whether a place is free, or a place of an active sampler of these dimensions.
     #[tactic(auto, unfolding(crate::specs::State::place_ok))]
-    fn place_ok(&self, place: &Place) -> bool
+    fn place_ok(&self, place: &Option<Place>) -> bool
         ensures { result ≡ place_ok self.now.active self.now.dimensions.now (length self.now.dimensions.now) place.now }
     {
-        !place.taken || (self.active && self.progress_ok(place))
+        match place {
+            Some(held) => self.active && self.progress_ok(held),
+            None => true,
+        }
     }
 
     // Whether each place is.
-    fn places_ok(&self, places: &[Place; 32]) -> bool
+    fn places_ok(&self, places: &[Option<Place>; 32]) -> bool
         ensures { let dims = self.now.dimensions.now in
             result ≡ list_all (place_ok self.now.active dims (length dims)) places.now }
     {
@@ -73,17 +76,25 @@ impl Judge<'_> {
     }
 }
 
-// Whether none of the places before a place is taken by its trial.
-fn is_new(before: &[Place], place: &Place) -> bool
-    ensures { result ≡ list_all (λ b. not (taken b && holds b.trial place.now)) before.now }
+// Whether a place is taken by the trial of another.
+fn same_trial(other: &Option<Place>, place: &Option<Place>) -> bool
+    ensures { result ≡ same_trial other.now place.now }
 {
-    before
-        .iter()
-        .all(|other| !(other.taken && place.is_held_by(other.trial)))
+    match other {
+        Some(held) => places::is_held_by(place, held.trial),
+        None => false,
+    }
+}
+
+// Whether none of the places before a place is taken by its trial.
+fn is_new(before: &[Option<Place>], place: &Option<Place>) -> bool
+    ensures { result ≡ list_all (λ b. not (same_trial b place.now)) before.now }
+{
+    before.iter().all(|other| !same_trial(other, place))
 }
 
 // Whether no trial takes two places.
-fn trials_once(places: &[Place; 32]) -> bool
+fn trials_once(places: &[Option<Place>; 32]) -> bool
     ensures { result ≡ trials_once places.now }
 {
     for (a, place) in places.iter().enumerate() {

@@ -1,68 +1,56 @@
 // The progress places.
-ghost use Rattle.std.specs.Prelude.{◌≡◌, not};
-ghost use Rattle.std.specs.List.{position};
-ghost use Rattle.sampler_state.specs.State.{taken, holds, trial_place, free_place, found_for, taken_count};
+ghost use Rattle.std.specs.Prelude.{◌≡◌};
+ghost use Rattle.sampler_state.specs.State.{holds, index_below, trial_place, free_place, spot_for, found_for, taken_count};
 
-use crate::{Found, Place, making};
+use crate::{Found, Place};
 
-impl Place {
-    // Whether it is taken by that trial.
-    pub(crate) fn is_held_by(&self, trial: u64) -> bool
-        ensures { result ≡ holds trial self.now }
-    {
-        self.taken && self.trial == trial
-    }
+// Whether a place is taken by that trial.
+pub(crate) fn is_held_by(place: &Option<Place>, trial: u64) -> bool
+    ensures { result ≡ holds trial place.now }
+{
+    matches!(place, Some(held) if held.trial == trial)
 }
 
-// The index of the place that a trial has.
-fn index_of(places: &[Place; 32], trial: u64) -> Option<usize>
-    ensures { result ≡ position (holds trial) places.now }
-{
-    places.iter().position(|place| place.is_held_by(trial))
-}
+// The index of the place of a trial.
 
-// The place of a trial, or 32.
-#[tactic(auto, using(crate::proofs::Indices::trial_place_is))]
-pub fn trial_place(places: [Place; 32], trial: u64) -> usize
-    ensures { result ≡ trial_place places trial }
+pub fn trial_place(places: &[Option<Place>; 32], trial: u64) -> Option<usize>
+    ensures { result ≡ index_below 32 (trial_place places.now trial) }
 {
-    index_of(&places, trial).unwrap_or(32)
+    places.iter().position(|place| is_held_by(place, trial))
 }
 
 // The index of the first free place.
-fn first_free(places: &[Place; 32]) -> Option<usize>
-    ensures { result ≡ position (λ p. not (taken p)) places.now }
+
+pub fn free_place(places: &[Option<Place>; 32]) -> Option<usize>
+    ensures { result ≡ index_below 32 (free_place places.now) }
 {
-    places.iter().position(|place| !place.taken)
+    places.iter().position(|place| place.is_none())
 }
 
-// The first free place, or 32.
-#[tactic(auto, using(crate::proofs::Indices::free_place_is))]
-pub fn free_place(places: [Place; 32]) -> usize
-    ensures { result ≡ free_place places }
+// Where the place of a trial is written: its own, else the first free one.
+#[tactic(auto, using(crate::proofs::Indices::spot_own, crate::proofs::Indices::spot_free))]
+fn spot_for(places: &[Option<Place>; 32], trial: u64) -> Option<usize>
+    ensures { result ≡ index_below 32 (spot_for places.now trial) }
 {
-    first_free(&places).unwrap_or(32)
-}
-
-// The place that a trial has, or the empty one, and where it is written: its own, else the first free one, or 32.
-pub fn find(places: [Place; 32], trial: u64) -> Found
-    ensures { result ≡ found_for places trial }
-{
-    match index_of(&places, trial) {
-        Some(spot) => Found {
-            place: places[spot],
-            spot,
-        },
-        None => Found {
-            place: making::empty_place(),
-            spot: free_place(places),
-        },
+    match trial_place(places, trial) {
+        Some(own) => Some(own),
+        None => free_place(places),
     }
 }
 
-// How many places are taken.
-pub fn taken_count(places: [Place; 32]) -> usize
-    ensures { result ≡ taken_count places }
+// What the place of a trial holds and where it is written, unless there is no room.
+#[tactic(auto, using(crate::proofs::Indices::found_at, crate::proofs::Indices::found_nowhere))]
+pub fn find(places: &[Option<Place>; 32], trial: u64) -> Option<Found>
+    ensures { result ≡ found_for places.now trial }
 {
-    places.iter().filter(|place| place.taken).count()
+    let spot = spot_for(places, trial)?;
+    let place = places[spot];
+    Some(Found { place, spot })
+}
+
+// How many places are taken.
+pub fn taken_count(places: &[Option<Place>; 32]) -> usize
+    ensures { result ≡ taken_count places.now }
+{
+    places.iter().filter(|place| place.is_some()).count()
 }

@@ -10,10 +10,9 @@ use Rattle.arith.specs.Lists.{list_of}
 use Rattle.arith.proofs.Lists.{grown-at, grown-length, grown-read, filled_at, list_same}
 use Rattle.lanes.specs.Rows.{cell, eight_of, lane_of, zero_row}
 use Rattle.lanes.proofs.Rows.{eight-at}
-use Rattle.rng_util.specs.declared.UnitDraw.{UnitDraw}
-use Rattle.rng_util.specs.Draws.{unit_of, unit_draw_of}
+use Rattle.rng_util.specs.Draws.{unit_of}
 use Rattle.rng_util.specs.Generator.{moved_of}
-use Rattle.rng_util.proofs.Nonzero.{Nonzero, nonzero-test, moved-nonzero}
+use Rattle.rng_util.proofs.Nonzero.{Nonzero, moved-nonzero}
 use Rattle.rng_util.proofs.Stream.{moved-add}
 use Rattle.search.specs.declared.Column.{Column}
 use Rattle.gp_model.specs.declared.Model.{Model}
@@ -28,15 +27,13 @@ word_after p d w = sym (rw (suc-mul p d, add_comm (p * d) d) (moved-add d (p * d
 
 -- ---- a coordinate of eight points
 module _ (ws at : List ℕ) (j : ℕ) (c : Column) (h : Words ws) (m : (p : ℕ) → p < 8 → get_or at p 0 ≡ moved_of j (get_or ws p 0)) (e : c ≡ column_of at) where
-  draw-is : (p : ℕ) → p < 8 → unit_draw_of (get_or at p 0) ≡ record { number = 0; value = unit_of (moved_of (suc j) (get_or ws p 0)); drawn = 1; next = moved_of (suc j) (get_or ws p 0) }
-  unfolding unit_draw_of moved_of
-  draw-is p g = rw (m p g, nonzero-test (moved_of j (get_or ws p 0)) (moved-nonzero j (get_or ws p 0) (h p g)))
-
   pub column-values : c.values ≡ eight_of (λ p. unit_of (moved_of (suc j) (get_or ws p 0)))
-  column-values = ap (λ (x : Column). x.values) e ∙ list_same _ _ 8 (λ p g. ap (λ (u : UnitDraw). u.value) (draw-is p g))
+  unfolding moved_of
+  column-values = ap (λ (x : Column). x.values) e ∙ list_same _ _ 8 (λ p g. rw (m p g))
 
   pub column-next : (p : ℕ) → p < 8 → get_or c.next p 0 ≡ moved_of (suc j) (get_or ws p 0)
-  column-next p g = ap (λ (x : Column). get_or x.next p 0) e ∙ grown-read (λ xs p. (unit_draw_of (get_or at p 0)).next) 8 p 0 g ∙ ap (λ (u : UnitDraw). u.next) (draw-is p g)
+  unfolding moved_of
+  column-next p g = ap (λ (x : Column). get_or x.next p 0) e ∙ grown-read (λ xs p. moved_of 1 (get_or at p 0)) 8 p 0 g ∙ rw (m p g)
 
 -- ---- the points
 -- row j of the points

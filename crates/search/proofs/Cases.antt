@@ -25,7 +25,7 @@ use Rattle.factor.specs.Cholesky.{columns_of, cholesky_of}
 use Rattle.factor.specs.Solve.{backward_of, solve_of}
 use Rattle.factor.specs.Triangle.{rows_of, less_of}
 use Rattle.kernel.specs.Matern.{scaled_root_of, decay_of, matern52_of}
-use Rattle.rng_util.specs.Draws.{unit_of, unit_draw_of}
+use Rattle.rng_util.specs.Draws.{unit_of}
 use Rattle.rng_util.specs.Generator.{moved_of, next_of, xor_left, xor_right}
 use Rattle.gp_model.specs.Fit.{fit_domain, fitted_of, fit_of}
 use Rattle.gp_model.specs.Kernels.{covariance_of, similarity_of}
@@ -81,5 +81,5 @@ Eight =
     kept = kept_each_of 1 (1 ∷ 0x40822041 ∷ 0x100041060c011441 ∷ []) (float 1 ∷ float 2 ∷ float 2 ∷ []) 3 (start_of 1 7)
 
 eight : Eight
-unfolding kept_each_of unit_draw_of moved_of next_of xor_left xor_right grown lt of_bits of_int
+unfolding kept_each_of moved_of next_of xor_left xor_right grown lt of_bits of_int
 eight = (refl, refl, refl, refl, refl, refl, refl, refl, refl, refl, refl)

@@ -3,7 +3,7 @@ use Rattle.std.specs.Prelude.{ℕ, zero, suc, ◌*◌, ◌<◌, List, get_or, Fl
 use Rattle.std.specs.Float.{nan}
 use Rattle.arith.specs.Lists.{list_of, filled}
 use Rattle.lanes.specs.Rows.{eight_of, zero_row}
-use Rattle.rng_util.specs.Draws.{unit_of, unit_draw_of}
+use Rattle.rng_util.specs.Draws.{unit_of}
 use Rattle.rng_util.specs.Generator.{moved_of}
 use Rattle.rng_util.proofs.Nonzero.{Nonzero}
 use Rattle.search.specs.declared.Column.{Column}
@@ -21,7 +21,7 @@ starts_of d w = record { words = list_of (λ p. moved_of (p * d) w) 8; next = mo
 
 -- a unit float drawn at each word
 abbrev pub column_of : List ℕ → Column
-column_of ws = record { values = eight_of (λ p. (unit_draw_of (get_or ws p 0)).value); next = list_of (λ p. (unit_draw_of (get_or ws p 0)).next) 8 }
+column_of ws = record { values = eight_of (λ p. unit_of (moved_of 1 (get_or ws p 0))); next = list_of (λ p. moved_of 1 (get_or ws p 0)) 8 }
 
 -- the points drawn at eight words, in an array of 20 rows: row j has coordinate j of each
 abbrev pub points_of : ℕ → List ℕ → List (List Float)

@@ -31,12 +31,13 @@ fn starts(word: u64, d: usize) -> Starts
 
 // A unit float drawn at each of eight words, and the words after them.
 fn column(words: &[u64; 8]) -> Column
+    requires { Words words.now }
     ensures { result ≡ column_of words.now }
 {
     let mut values = [0.0; 8];
     let mut next = [0; 8];
     for p in 0..8 {
-        let u = rng_util::unit_float(words[p]);
+        let u = rng_util::unit_float(words[p]).unwrap();
         values[p] = u.value;
         next[p] = u.next;
     }

@@ -21,7 +21,7 @@ pub(crate) fn draw(word: u64, d: usize) -> Candidate
     let mut x = [0.0; 20];
     let mut next = word;
     for j in 0..d {
-        let u = rng_util::unit_float(next);
+        let u = rng_util::unit_float(next).unwrap();
         x[j] = u.value;
         next = u.next;
     }

@@ -62,6 +62,6 @@ abbrev pub has_id : ℕ → List ℕ → Bool
 has_id id v = present v && eqb (id_of v) id
 
 -- the value of a slot, of its distribution's kind
-abbrev pub value_read : Option Distribution → ℕ → ParamValue
-value_read (Some d) w = value_of d w
-value_read None w = ParamValue.Refused 11
+abbrev pub value_read : Option Distribution → ℕ → Option ParamValue
+value_read (Some d) w = Some (value_of d w)
+value_read None w = None

@@ -44,17 +44,15 @@ fn taken_read(read: Option<Distribution>, word: u64) -> bool
 }
 
 // A word as a value of what was read.
-fn value_read(read: Option<Distribution>, word: u64) -> ParamValue
+fn value_read(read: Option<Distribution>, word: u64) -> Option<ParamValue>
     ensures { result ≡ value_read read word }
 {
-    match read {
-        Some(d) => distribution::value_of_word(d, word),
-        None => ParamValue::Refused(11),
-    }
+    let d = read?;
+    Some(distribution::value_of_word(d, word))
 }
 
-// Its taken value.
-pub fn value(slot: &[u64]) -> ParamValue
+// Its taken value, where it reads as a distribution.
+pub fn value(slot: &[u64]) -> Option<ParamValue>
     ensures { result ≡ value_read (slot_read slot.now) (get_or slot.now 7 0) }
 {
     value_read(read(slot), word(slot, 7))

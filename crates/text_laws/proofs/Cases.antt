@@ -1,5 +1,5 @@
 -- The definitions of texts at single points, computed. Assumes nothing.
-use Rattle.std.specs.Prelude.{Some, None}
+use Rattle.std.specs.Prelude.{Some, None, Ok, Err}
 use Prim.Native.Nat.{ℕ, ◌^◌}
 use mathlib.Core.Path.{◌≡◌, refl}
 use mathlib.Core.Bool.{true, false}
@@ -16,12 +16,12 @@ use Rattle.settings.specs.Settings.{settings_ok}
 use Rattle.sampler_laws.specs.Calls.{sample_of}
 use Rattle.sampler_laws.specs.Runs.{asks}
 use Rattle.sampler_state.specs.declared.Sampler.{Sampler}
-use Rattle.sampler_state.specs.State.{make_of, fresh_of, no_sampler}
+use Rattle.sampler_state.specs.State.{make_of, fresh_of}
 use Rattle.text_laws.specs.declared.Event.{Event}
 use Rattle.text_laws.specs.declared.Stage.{Stage}
 use Rattle.propose_lines.specs.Lines.{word_at, is_words, words_in, answer_line}
 use Rattle.propose_lines.specs.Names.{slots_names, history_names, answer_names, same_bytes}
-use Rattle.text_laws.specs.Steps.{reading_of, stepped_of, awaits, ends, settings_of, settings_line, row_words, row_line, history_line, sampled_of, answered_of, call_line, start_of, step_of, finish_of}
+use Rattle.text_laws.specs.Steps.{reading_of, stepped_of, awaits, ends, settings_of, settings_line, row_words, row_line, history_line, sampled_of, answered_of, call_line, no_sampler, start_of, step_of, finish_of}
 use Rattle.text_laws.specs.Texts.{read_of, ended, written_of, line_of, lines_of, Sized, Words, Table, joined, Document, WellFormed, head_of, text_of, calls_of, answer_lines, answers_to}
 use Rattle.text_laws.proofs.Tables.{at}
 
@@ -104,8 +104,8 @@ output =
 abbrev Written : Type 0
 Written =
     (answer_line 7 3 1 1 ≡ take 68 output)
-    × (answer_lines ((7 ∷ []) ∷ (7 ∷ []) ∷ []) ((0, ParamValue.Categorical 1, 1) ∷ (0, ParamValue.Int (pos 5), 1) ∷ []) ≡ output)
-    × ((answered_of 7 (record { number = 2; value = ParamValue.Refused 2; drawn = 0; sampler = no_sampler }) start_of).written ≡ answer_line 7 0 2 0)
+    × (answer_lines ((7 ∷ []) ∷ (7 ∷ []) ∷ []) (Ok (record { value = Some (ParamValue.Categorical 1); drawn = 1 }) ∷ Ok (record { value = Some (ParamValue.Int (pos 5)); drawn = 1 }) ∷ []) ≡ output)
+    × ((answered_of 7 (record { answer = Err Refusal.Malformed; sampler = no_sampler }) start_of).written ≡ answer_line 7 0 2 0)
     × ((ends Refusal.Text start_of).written ≡ 48 ∷ 48 ∷ 48 ∷ 48 ∷ 48 ∷ 48 ∷ 48 ∷ 48 ∷ 48 ∷ 48 ∷ 48 ∷ 48 ∷ 48 ∷ 48 ∷ 48 ∷ 48 ∷ 32 ∷ 48 ∷ 48 ∷ 48 ∷ 48 ∷ 48 ∷ 48 ∷ 48 ∷ 48 ∷ 48 ∷ 48 ∷ 48 ∷ 48 ∷ 48 ∷ 48 ∷ 48 ∷ 48 ∷ 32 ∷ 48 ∷ 48 ∷ 48 ∷ 48 ∷ 48 ∷ 48 ∷ 48 ∷ 48 ∷ 48 ∷ 48 ∷ 48 ∷ 48 ∷ 48 ∷ 48 ∷ 48 ∷ 101 ∷ 32 ∷ 48 ∷ 48 ∷ 48 ∷ 48 ∷ 48 ∷ 48 ∷ 48 ∷ 48 ∷ 48 ∷ 48 ∷ 48 ∷ 48 ∷ 48 ∷ 48 ∷ 48 ∷ 48 ∷ 10 ∷ [])
     × ((ends Refusal.Settings start_of).reading.stage ≡ Stage.Ended)
 

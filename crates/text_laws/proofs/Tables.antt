@@ -6,7 +6,6 @@ use mathlib.Core.List.{List, [], ◌∷◌, ◌++◌, append_assoc, append-nil}
 use native.Mathlib.Omega.{arith}
 use borrow.Author.Tests.{le-leb}
 use lib.ListN.{length, get_or, length-append}
-use Rattle.distribution.specs.Value.{kind_of, word_of}
 use Rattle.refusal.specs.declared.Refusal.{Refusal}
 use Rattle.refusal.specs.Numbers.{cause_number}
 use Rattle.settings.specs.Settings.{settings_ok}
@@ -17,7 +16,7 @@ use Rattle.text_laws.specs.declared.Event.{Event}
 use Rattle.text_laws.specs.declared.Stage.{Stage}
 use Rattle.propose_lines.specs.Lines.{is_words, answer_line}
 use Rattle.propose_lines.specs.Names.{settings_names, row_names, slot_names, slots_names, history_names, call_names, same_bytes}
-use Rattle.text_laws.specs.Steps.{Reading, Stepped, ends, settings_of, made_of, sampled_of, answered_of, slots_of, row_words, settings_line, row_line, history_line, call_line, step_of}
+use Rattle.text_laws.specs.Steps.{Reading, Stepped, ends, settings_of, made_of, sampled_of, told_line, answered_of, slots_of, row_words, settings_line, row_line, history_line, call_line, step_of}
 use Rattle.text_laws.specs.Texts.{read_of, ended, line_of, lines_of, Words, Table, joined, calls_of, answer_lines}
 use Rattle.propose_lines.proofs.Bytes.{same_self, same-equal}
 use Rattle.text_laws.proofs.Cut.{plain, plain-append, read-ended, silent}
@@ -134,5 +133,5 @@ read-calls s h (ws ∷ calls) rest t =
     ap (read_of r []) (append_assoc (ended (line_of ws)) (lines_of calls) rest)
     ∙ read-ended r (line_of ws) (lines_of calls ++ rest) (line_plain ws)
     ∙ ap (λ (x : Stepped). x.written ++ read_of x.reading [] (lines_of calls ++ rest)) (call_step s h ws t.0)
-    ∙ ap (λ (l : List ℕ). answer_line (get_or ws 0 0) (kind_of a.value) (word_of a.value) a.drawn ++ l) (read-calls a.sampler h calls rest t.1)
-    ∙ sym (append_assoc (answer_line (get_or ws 0 0) (kind_of a.value) (word_of a.value) a.drawn) _ _)
+    ∙ ap (λ (l : List ℕ). told_line (get_or ws 0 0) a.answer ++ l) (read-calls a.sampler h calls rest t.1)
+    ∙ sym (append_assoc (told_line (get_or ws 0 0) a.answer) _ _)

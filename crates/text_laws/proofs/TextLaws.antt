@@ -13,13 +13,13 @@ use Rattle.settings.specs.declared.Settings.{Settings}
 use Rattle.settings.specs.Settings.{settings_ok}
 use Rattle.sampler_state.specs.declared.Sampler.{Sampler}
 use Rattle.sampler_laws.specs.Runs.{end_of}
-use Rattle.sampler_state.specs.State.{fresh_of, no_sampler}
+use Rattle.sampler_state.specs.State.{fresh_of}
 use Rattle.text_laws.specs.declared.Event.{Event}
 use Rattle.text_laws.specs.declared.Stage.{Stage}
 use Rattle.text_laws.specs.Laws.{NoCall, TextAnswers}
 use Rattle.propose_lines.specs.Lines.{is_words, words_in, answer_line}
 use Rattle.propose_lines.specs.Names.{settings_names, history_names, call_names, answer_names, same_bytes}
-use Rattle.text_laws.specs.Steps.{ends, settings_of, slots_of, row_words, settings_line, row_line, history_line, call_line, start_of, step_of, finish_of}
+use Rattle.text_laws.specs.Steps.{ends, settings_of, slots_of, row_words, settings_line, row_line, history_line, call_line, no_sampler, start_of, step_of, finish_of}
 use Rattle.text_laws.specs.Texts.{read_of, ended, written_of, line_of, lines_of, Words, Table, joined, Document, WellFormed, slots_in, head_of, text_of, calls_of, answers_to}
 use Rattle.propose_lines.proofs.Bytes.{same-equal}
 use Rattle.text_laws.proofs.Cut.{plain, read-rest, Cut, no_line, a-line, cut}

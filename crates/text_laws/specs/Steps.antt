@@ -1,16 +1,17 @@
 -- The three tables, line by line. "Lines are judged in order as read." Definitions only.
-use Rattle.std.specs.Prelude.{ℕ, ◌+◌, ◌*◌, Bool, ◌&&◌, cond, List, [], ◌++◌, eqb, leb, length, get_or, take, Option, Some, None}
+use Rattle.std.specs.Prelude.{ℕ, ◌+◌, ◌*◌, Bool, ◌&&◌, cond, List, [], ◌++◌, eqb, leb, length, get_or, take, Option, Some, None, Result, Ok, Err}
 use Rattle.std.specs.Float.{binary64}
 use Rattle.std.specs.Float.Ieee.{of_bits}
 use Rattle.refusal.specs.declared.Refusal.{Refusal}
 use Rattle.refusal.specs.Numbers.{cause_number}
+use Rattle.distribution.specs.declared.ParamValue.{ParamValue}
 use Rattle.distribution.specs.Value.{kind_of, word_of}
 use Rattle.settings.specs.declared.Settings.{Settings}
-use Rattle.sampler_state.specs.declared.Made.{Made}
+use Rattle.sampler_laws.specs.declared.Answer.{Answer}
 use Rattle.sampler_laws.specs.declared.Sampled.{Sampled}
 use Rattle.sampler_state.specs.declared.Sampler.{Sampler}
 use Rattle.sampler_laws.specs.Calls.{sample_of}
-use Rattle.sampler_state.specs.State.{make_of, no_sampler}
+use Rattle.sampler_state.specs.State.{fresh_of, make_of}
 use Rattle.text_laws.specs.declared.Event.{Event}
 use Rattle.text_laws.specs.declared.Reader.{Reader}
 use Rattle.text_laws.specs.declared.Stage.{Stage}
@@ -64,8 +65,9 @@ abbrev pub settings_of : List ℕ → Settings
 settings_of ws =
     record { n_startup_trials = get_or ws 0 0; n_candidates = get_or ws 1 0; noise_variance = of_bits binary64 (get_or ws 2 0); seed = get_or ws 3 0; slots = get_or ws 4 0 }
 
-abbrev pub made_of : Made → Reading → Stepped
-made_of m r = cond (eqb m.number 0) (record { reading = record { stage = Stage.HistoryNames; sampler = m.sampler; history = r.history }; event = Event.Settings; written = [] }) (ends Refusal.Settings r)
+abbrev pub made_of : Result Sampler Refusal → Reading → Stepped
+made_of (Ok s) r = record { reading = record { stage = Stage.HistoryNames; sampler = s; history = r.history }; event = Event.Settings; written = [] }
+made_of (Err e) r = ends e r
 
 -- "Settings (one line)": malformed text is 14, a setting out of range 1
 unfoldable pub settings_line : Reading → List ℕ → Stepped
@@ -97,10 +99,19 @@ history_line r line = cond (same_bytes line call_names) (awaits Stage.Calls Even
 abbrev pub sampled_of : Reading → List ℕ → Sampled
 sampled_of r ws = sample_of r.sampler (get_or ws 1 0) (get_or ws 2 0) (get_or ws 3 0) (get_or ws 4 0) (get_or ws 5 0) (get_or ws 6 0) (get_or ws 0 0) r.history
 
+-- "trial, value kind, value, words drawn": a close has no value, and prints 0 and 0
+abbrev pub value_line : ℕ → Option ParamValue → ℕ → List ℕ
+value_line trial (Some v) drawn = answer_line trial (kind_of v) (word_of v) drawn
+value_line trial None drawn = answer_line trial 0 0 drawn
+
 -- "A refused call prints its trial, 0, the number, 0."
+abbrev pub told_line : ℕ → Result Answer Refusal → List ℕ
+told_line trial (Ok a) = value_line trial a.value a.drawn
+told_line trial (Err e) = answer_line trial 0 (cause_number e) 0
+
 abbrev pub answered_of : ℕ → Sampled → Reading → Stepped
 answered_of trial a r =
-    record { reading = record { stage = Stage.Calls; sampler = a.sampler; history = r.history }; event = Event.Call; written = answer_line trial (kind_of a.value) (word_of a.value) a.drawn }
+    record { reading = record { stage = Stage.Calls; sampler = a.sampler; history = r.history }; event = Event.Call; written = told_line trial a.answer }
 
 unfoldable pub call_line : Reading → List ℕ → Stepped
 call_line r line = cond (is_words 7 line) (answered_of (get_or (words_in 7 line) 0 0) (sampled_of r (words_in 7 line)) r) (ends Refusal.Text r)
@@ -114,6 +125,10 @@ line_at Stage.Calls r line = call_line r line
 line_at Stage.Ended r line = awaits Stage.Ended Event.Nothing r
 
 -- ---- what a reader does
+
+-- no settings are read yet: a sampler of zeros
+abbrev pub no_sampler : Sampler
+no_sampler = fresh_of (record { n_startup_trials = 0; n_candidates = 0; noise_variance = of_bits binary64 0; seed = 0; slots = 0 })
 
 unfoldable pub start_of : Reading
 start_of = record { stage = Stage.SettingsNames; sampler = no_sampler; history = [] }

@@ -1,10 +1,9 @@
 -- `common::random::random` meets its contract, by the kind. Assumes nothing.
-use mathlib.Core.Path.{◌∙◌, sym, ap, subst}
+use mathlib.Core.Path.{subst}
 use lib.Dec.{T}
 use Rattle.distribution.specs.Shape.{shape_of}
 use Rattle.distribution.specs.declared.Distribution.{Distribution}
 use Rattle.distribution.proofs.Facts.{categorical-rules}
-use Rattle.common.specs.Random.{random_of}
 use Rattle.common.proofs.random.random.Goals as goal
 
 pub int_random-requires : goal.int_random-requires
@@ -14,15 +13,3 @@ int_random-requires c = subst (λ (d : Distribution). T (shape_of d)) c.in-Int.i
 pub categorical_random-requires : goal.categorical_random-requires
 unfolding shape_of
 categorical_random-requires c = categorical-rules c.in-Categorical.c (subst (λ (d : Distribution). T (shape_of d)) c.in-Categorical.is c.requires)
-
-pub returns-in-Float : goal.returns-in-Float
-unfolding random_of
-returns-in-Float c = c.float_random.ensures ∙ sym (ap (random_of _) c.in-Float.is)
-
-pub returns-in-Int : goal.returns-in-Int
-unfolding random_of
-returns-in-Int c = c.int_random.ensures ∙ sym (ap (random_of _) c.in-Int.is)
-
-pub returns-in-Categorical : goal.returns-in-Categorical
-unfolding random_of
-returns-in-Categorical c = c.categorical_random.ensures ∙ sym (ap (random_of _) c.in-Categorical.is)

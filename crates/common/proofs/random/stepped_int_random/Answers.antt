@@ -5,17 +5,15 @@ use lib.Signed.{quot_z}
 use mir.Syntax.{w64}
 use mir.Val.{SFits, to_z, of_z}
 use mir.ValLaws.{to_z-of_z}
-use Rattle.rng_util.specs.declared.WholeDraw.{WholeDraw}
-use Rattle.distribution.specs.declared.ParamValue.{ParamValue}
+use Rattle.std.specs.Prelude.{Ok}
+use Rattle.rng_util.specs.declared.Draw.{Draw}
 use Rattle.rng_util.specs.Draws.{whole_draw_of}
 use Rattle.common.specs.Random.{stepped_int_random}
-use Rattle.common.proofs.Draws.{from-whole}
 use Rattle.common.proofs.Steps as steps
 use Rattle.common.proofs.Steps.{UpTo}
 use Rattle.distribution.proofs.Whole.{ReadBack}
-use borrow.Author.Rules.{rules}
 use Rattle.common.proofs.random.stepped_int_random.Goals as goal
-use Rattle.common.proofs.random.stepped_int_random.Goals.{After-whole_number-r, Start}
+use Rattle.common.proofs.random.stepped_int_random.Goals.{After-whole_number, Start}
 
 low : (c : Start) → ReadBack c.args.low
 low c = to_z-of_z w64 c.args.low c.ranges.low
@@ -35,31 +33,39 @@ quotient c =
     (λ i. quot_z ((ap (λ (z : ℤ). to_z w64 (of_z w64 z)) (difference c) ∙ to_z-of_z w64 _ (steps.span_fits _ _ _ c.requires) ∙ sym (steps.span-is _ _ _ c.requires)) i) (step c i))
     ∙ steps.steps-is c.args.low c.args.high c.args.step c.requires
 
--- the number of steps drawn
-drawn : (c : After-whole_number-r) → c.whole_number-r.result ≡ whole_draw_of c.args.w (pos 0) (pos (steps.steps c.args.low c.args.high c.args.step c.requires))
-drawn c = c.whole_number-r.ensures ∙ ap (whole_draw_of c.args.w (pos 0)) (ap (λ (z : ℤ). to_z w64 (of_z w64 z)) (quotient c.before) ∙ to_z-of_z w64 _ (steps.steps-fit _ _ _ c.requires))
+module _ (c : After-whole_number) (r : Draw ℤ) (e : c.whole_number.result ≡ Ok r) where
+  -- the number of steps drawn
+  drawn : whole_draw_of c.args.w (pos 0) (pos (steps.steps c.args.low c.args.high c.args.step c.requires)) ≡ Ok r
+  drawn = sym (c.whole_number.ensures ∙ ap (whole_draw_of c.args.w (pos 0)) (ap (λ (z : ℤ). to_z w64 (of_z w64 z)) (quotient c.before) ∙ to_z-of_z w64 _ (steps.steps-fit _ _ _ c.requires))) ∙ e
 
-value : (c : After-whole_number-r) → ReadBack c.whole_number-r.result.value
-value c = search rules
+  count : UpTo (steps.steps c.args.low c.args.high c.args.step c.requires) r.value
+  count = steps.drawn-up-to c.args.w _ r drawn
 
-way : (c : After-whole_number-r) → UpTo (steps.span c.args.low c.args.high c.args.step c.requires) (c.whole_number-r.result.value *ℤ c.args.step)
-way c = steps.way _ _ _ c.requires c.whole_number-r.result.value (subst (λ (r : WholeDraw). UpTo (steps.steps c.args.low c.args.high c.args.step c.requires) r.value) (sym (drawn c)) (steps.drawn-up-to c.args.w _))
+  value : ReadBack r.value
+  value = steps.read-back _ r.value count (steps.steps-small _ _ _ c.requires)
 
-product-fits : (c : After-whole_number-r) → SFits w64 (to_z w64 (of_z w64 c.whole_number-r.result.value) *ℤ to_z w64 (of_z w64 c.args.step))
-product-fits c = subst (SFits w64) (sym (λ i. value c i *ℤ step c.before i)) (steps.way-fits _ _ _ c.requires _ (way c))
+  way : UpTo (steps.span c.args.low c.args.high c.args.step c.requires) (r.value *ℤ c.args.step)
+  way = steps.way _ _ _ c.requires r.value count
 
-product : (c : After-whole_number-r) → to_z w64 (of_z w64 (to_z w64 (of_z w64 c.whole_number-r.result.value) *ℤ to_z w64 (of_z w64 c.args.step))) ≡ c.whole_number-r.result.value *ℤ c.args.step
-product c = to_z-of_z w64 _ (product-fits c) ∙ (λ i. value c i *ℤ step c.before i)
+  product-fits : SFits w64 (to_z w64 (of_z w64 r.value) *ℤ to_z w64 (of_z w64 c.args.step))
+  product-fits = subst (SFits w64) (sym (λ i. value i *ℤ step c.before i)) (steps.way-fits _ _ _ c.requires _ way)
+
+  sum : to_z w64 (of_z w64 c.args.low) +ℤ to_z w64 (of_z w64 (to_z w64 (of_z w64 r.value) *ℤ to_z w64 (of_z w64 c.args.step))) ≡ c.args.low +ℤ r.value *ℤ c.args.step
+  sum = λ i. low c.before i +ℤ (to_z-of_z w64 _ product-fits ∙ (λ j. value j *ℤ step c.before j)) i
+
+  sum-fits : SFits w64 (c.args.low +ℤ r.value *ℤ c.args.step)
+  sum-fits = steps.way-sum-fits _ _ _ c.requires _ way
 
 pub overflow_mul-k : goal.overflow_mul-k
-overflow_mul-k c = product-fits (goal.at.overflow_mul-k c).After-whole_number-r
+overflow_mul-k c = product-fits (goal.at.overflow_mul-k c).After-whole_number c.in_ok-r.r c.in_ok-r.was
 
 pub overflow_add-low : goal.overflow_add-low
-overflow_add-low c = subst (SFits w64) (sym (λ i. low (goal.at.overflow_add-low c).Start i +ℤ product (goal.at.overflow_add-low c).After-whole_number-r i)) (steps.way-sum-fits _ _ _ c.requires _ (way (goal.at.overflow_add-low c).After-whole_number-r))
+overflow_add-low c =
+    let s = (goal.at.overflow_add-low c).After-whole_number in
+    subst (SFits w64) (sym (sum s c.in_ok-r.r c.in_ok-r.was)) (sum-fits s c.in_ok-r.r c.in_ok-r.was)
 
 pub returns : goal.returns
 unfolding stepped_int_random
-returns c = c.finish.ensures
-    ∙ from-whole c.args.w (pos 0) (quot_z (c.args.high -ℤ c.args.low) c.args.step) _ _ (λ k. ParamValue.Int (c.args.low +ℤ k *ℤ c.args.step))
-    (drawn (goal.at.returns c).After-whole_number-r ∙ ap (whole_draw_of c.args.w (pos 0)) (sym (steps.steps-is _ _ _ c.requires)))
-    (ap ParamValue.Int (ap (λ (z : ℤ). to_z w64 (of_z w64 z)) (λ i. low (goal.at.returns c).Start i +ℤ product (goal.at.returns c).After-whole_number-r i) ∙ to_z-of_z w64 _ (steps.way-sum-fits _ _ _ c.requires _ (way (goal.at.returns c).After-whole_number-r))))
+returns c =
+    let s = (goal.at.returns c).After-whole_number in
+    rw (c.with.ensures, steps.steps-is _ _ _ c.requires, drawn s c.in_ok-r.r c.in_ok-r.was, sum s c.in_ok-r.r c.in_ok-r.was, to_z-of_z w64 _ (sum-fits s c.in_ok-r.r c.in_ok-r.was))

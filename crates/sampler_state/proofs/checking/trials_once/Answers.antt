@@ -1,9 +1,8 @@
 -- `sampler_state::checking::trials_once` meets its contract. Assumes nothing.
-use Rattle.std.proofs.Common.{◌≡◌, ℕ, not, sym, ap, ◌∙◌, refl, add-one, arith}
-use mathlib.Core.Bool.{◌&&◌}
+use Rattle.std.proofs.Common.{◌≡◌, ℕ, not, Option, sym, ap, ◌∙◌, refl, add-one, arith}
 use Rattle.arith.specs.Lists.{every}
 use Rattle.arith.proofs.Lists.{every-not}
-use Rattle.sampler_state.specs.State.{empty_place, place_at, taken, holds, trials_once}
+use Rattle.sampler_state.specs.State.{empty_place, place_at, same_trial, trials_once}
 use Rattle.sampler_state.specs.declared.Place.{Place}
 use Rattle.std.specs.List.{list_all}
 use lib.ListN.{take}
@@ -14,12 +13,12 @@ use Rattle.sampler_state.proofs.checking.trials_once.Goals.{After-is_new}
 
 -- the test of place a by what the code says of it
 tested : (c : After-is_new) → let ps = c.args.places.now in
-    every c.loop-a.a (λ b. not (taken (place_at ps b) && holds (place_at ps b).trial (place_at ps c.loop-a.a))) ≡ c.is_new.result
+    every c.loop-a.a (λ b. not (same_trial (place_at ps b) (place_at ps c.loop-a.a))) ≡ c.is_new.result
 tested c =
     let ps = c.args.places.now in
     let a = c.loop-a.a in
-    sym (c.is_new.ensures ∙ ap (λ (p : Place). list_all (λ (q : Place). not (taken q && holds q.trial p)) (take a ps)) (same-element ps a _ empty_place (omega arith))
-    ∙ all_front (λ (q : Place). not (taken q && holds q.trial (place_at ps a))) ps empty_place a (omega arith))
+    sym (c.is_new.ensures ∙ ap (λ (p : Option Place). list_all (λ (q : Option Place). not (same_trial q p)) (take a ps)) (same-element ps a _ empty_place (omega arith))
+    ∙ all_front (λ (q : Option Place). not (same_trial q (place_at ps a))) ps empty_place a (omega arith))
 
 pub loop-a-init : goal.loop-a-init
 loop-a-init c = unfold every in refl
@@ -38,4 +37,4 @@ unfolding trials_once
 returns c =
     let ps = c.args.places.now in
     let e : c.loop-a.a ≡ 32 = omega arith in
-    sym c.loop-a.invariant ∙ ap (λ (n : ℕ). every n (λ i. every i (λ b. not (taken (place_at ps b) && holds (place_at ps b).trial (place_at ps i))))) e
+    sym c.loop-a.invariant ∙ ap (λ (n : ℕ). every n (λ i. every i (λ b. not (same_trial (place_at ps b) (place_at ps i))))) e

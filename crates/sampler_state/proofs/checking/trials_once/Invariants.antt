@@ -1,8 +1,7 @@
 use Rattle.std.proofs.Common.{◌≡◌, true, not}
-use mathlib.Core.Bool.{◌&&◌}
 use Rattle.arith.specs.Lists.{every}
-use Rattle.sampler_state.specs.State.{place_at, taken, holds}
+use Rattle.sampler_state.specs.State.{place_at, same_trial}
 use Rattle.sampler_state.proofs.checking.trials_once.Given as goal
 
 abbrev pub invariant-loop-a : goal.invariant-loop-a
-invariant-loop-a l = every l.a (λ a. every a (λ b. not (taken (place_at l.places b) && holds (place_at l.places b).trial (place_at l.places a)))) ≡ true
+invariant-loop-a l = every l.a (λ a. every a (λ b. not (same_trial (place_at l.places b) (place_at l.places a)))) ≡ true

@@ -10,6 +10,6 @@ use Rattle.sampler_state.proofs.places.taken_count.Goals as goal
 pub returns : goal.returns
 unfolding taken_count
 returns c =
-    count_from_yields_List c.filter.result c.count.result c.count.ensures.ran (YieldsList-from_filter _ taken (YieldsList-from_slice c.args.places (cc)) c.filter.ensures.closure (λ x b q k. search (rules, tests)))
-    ∙ length-filter taken c.args.places
-    ∙ count_places taken c.args.places empty_place 32 (search rules)
+    count_from_yields_List c.filter.result c.count.result c.count.ensures.ran (YieldsList-from_filter _ taken (YieldsList-from_slice c.args.places.now (cc)) c.filter.ensures.closure (λ x b q k. search (rules, tests)))
+    ∙ length-filter taken c.args.places.now
+    ∙ count_places taken c.args.places.now empty_place 32 (search rules)

@@ -7,6 +7,7 @@ use Rattle.arith.specs.Lists.{grown}
 use Rattle.arith.proofs.Lists.{grown-filled-set}
 use Rattle.lanes.specs.Rows.{zero_row}
 use Rattle.rng_util.specs.Generator.{moved_of}
+use Rattle.rng_util.proofs.Nonzero.{moved-nonzero}
 use Rattle.search.proofs.Beside.{column-values, column-next}
 use Rattle.search.proofs.eights.points.Goals as goal
 
@@ -21,3 +22,6 @@ loop-j-preserved c =
       rw (c.loop-j.invariant.0, add-one j, column-values w c.loop-j.at j _ c.requires.1 c.loop-j.invariant.1 c.column.ensures) (grown-filled-set zero_row 20 _ j (omega arith)),
       rw (add-one j) (column-next w c.loop-j.at j _ c.requires.1 c.loop-j.invariant.1 c.column.ensures),
     )
+
+pub column-requires : goal.column-requires
+column-requires c p h = rw (c.loop-j.invariant.1 p h) (moved-nonzero c.loop-j.j _ (c.requires.1 p h))
