@@ -50,6 +50,6 @@ module _ (r : Reading) (line : List ℕ) (long : 17 * 163 ≤ length line) where
   at_stage Stage.Calls h = rw (not-words 7 line (λ e. omega arith))
   at_stage Stage.Ended h = absurd (h refl)
 
-pub long-lines : LongLines
+pub long_lines : LongLines
 unfolding step_of
-long-lines r line h long = at_stage r line (omega arith) r.stage h
+long_lines r line h long = at_stage r line (omega arith) r.stage h
