@@ -39,42 +39,23 @@ next-line r next event line rest p e = read-ended r line rest p ∙ ap (λ (t : 
 
 -- ---- names lines
 
-row_plain : plain row_names ≡ true
-unfolding plain
-row_plain = refl
-
-slot-plain : plain slot_names ≡ true
-unfolding plain
-slot-plain = refl
-
 slots-plain : (n : ℕ) → plain (slots_names n) ≡ true
 unfolding slots_names plain
 slots-plain zero = refl
-slots-plain (suc n) = plain-append slot_names (slots_names n) slot-plain (slots-plain n)
-
-pub history-plain : (n : ℕ) → plain (history_names n) ≡ true
-history-plain n = plain-append row_names (slots_names n) row_plain (slots-plain n)
-
-pub settings-plain : plain settings_names ≡ true
-unfolding plain
-settings-plain = refl
-
-pub calls-plain : plain call_names ≡ true
-unfolding plain
-calls-plain = refl
+slots-plain (suc n) = plain-append slot_names (slots_names n) refl (slots-plain n)
 
 pub read-settings-names : (s : Sampler) (h rest : List ℕ) → read_of (at Stage.SettingsNames s h) [] (ended settings_names ++ rest) ≡ read_of (at Stage.Settings s h) [] rest
-unfolding step_of
-read-settings-names s h rest = next-line _ _ Event.Names settings_names rest settings-plain (rw (same_self settings_names))
+unfolding step_of plain
+read-settings-names s h rest = next-line _ _ Event.Names settings_names rest refl (rw (same_self settings_names))
 
 pub read-history-names : (s : Sampler) (h rest : List ℕ) → slots_of s ≤ 20 → read_of (at Stage.HistoryNames s h) [] (ended (history_names (slots_of s)) ++ rest) ≡ read_of (at Stage.History s h) [] rest
-unfolding step_of
+unfolding step_of plain
 read-history-names s h rest few =
-    next-line _ _ Event.Names (history_names (slots_of s)) rest (history-plain (slots_of s)) (rw (le-leb (slots_of s) 20 few, same_self (history_names (slots_of s))))
+    next-line _ _ Event.Names (history_names (slots_of s)) rest (plain-append row_names (slots_names (slots_of s)) refl (slots-plain (slots_of s))) (rw (le-leb (slots_of s) 20 few, same_self (history_names (slots_of s))))
 
 pub read-call-names : (s : Sampler) (h rest : List ℕ) → read_of (at Stage.History s h) [] (ended call_names ++ rest) ≡ read_of (at Stage.Calls s h) [] rest
-unfolding step_of history_line
-read-call-names s h rest = next-line _ _ Event.CallsBegin call_names rest calls-plain (rw (same_self call_names))
+unfolding step_of history_line plain
+read-call-names s h rest = next-line _ _ Event.CallsBegin call_names rest refl (rw (same_self call_names))
 
 -- ---- the settings
 
