@@ -18,7 +18,7 @@ use Rattle.word_text.proofs.RoundTrip.{reads, prints}
 use Rattle.propose_lines.specs.Lines.{word_at, is_word, word_of, spaced_of, is_words, words_in}
 use Rattle.propose_lines.specs.Names.{call_names}
 use Rattle.text_laws.specs.Texts.{line_of, Sized, Words}
-use Rattle.propose_lines.proofs.Words.{words-length}
+use Rattle.propose_lines.proofs.Words.{words_length}
 use Rattle.text_laws.proofs.Cut.{plain, plain-append}
 use Rattle.arith.proofs.Tests.{both, iff}
 
@@ -158,13 +158,13 @@ read_back (suc k) line h =
     let w = word_of (parse_of a) in
     let d = prints a w (is_word_lem (parse_of a) t.0) in
     let ws : words_in (suc (suc k)) line ≡ w ∷ words_in (suc k) rest = ap (words_in (suc (suc k))) q ∙ words-front a rest l k in
-    let m = words-length (suc k) rest in
+    let m = words_length (suc k) rest in
     rw ws
     (q ∙ ap₂ (λ (x y : List ℕ). x ++ (32 ∷ y)) d.0 i.0 ∙ sym (line-cons w (words_in (suc k) rest) (omega arith)), (d.1, i.1))
 
 pub words-read-back : (k : ℕ) (line : List ℕ) → 1 ≤ k → is_words k line ≡ true → Words k (words_in k line) × (line ≡ line_of (words_in k line))
 words-read-back zero line m h = absurd (omega arith)
-words-read-back (suc k) line m h = let b = read_back k line h in (record { some = m; count = words-length (suc k) line; sized = b.1 }, b.0)
+words-read-back (suc k) line m h = let b = read_back k line h in (record { some = m; count = words_length (suc k) line; sized = b.1 }, b.0)
 
 -- ---- names are no words
 
