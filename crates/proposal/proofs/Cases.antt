@@ -18,7 +18,8 @@ use Rattle.arith.specs.Sums.{sum_over}
 use Rattle.factor.specs.Cholesky.{columns_of as factor_columns, cholesky_of}
 use Rattle.factor.specs.Triangle.{rows_of, less_of}
 use Rattle.kernel.specs.Matern.{scaled_root_of, decay_of, matern52_of}
-use Rattle.rng_util.specs.Draws.{unit_of, whole_draw_of, whole_of as whole_at, range_ok}
+use Rattle.rng_util.specs.declared.Draw.{Draw}
+use Rattle.rng_util.specs.Draws.{unit_of, word_draw_of, whole_draw_of, whole_of as whole_at, range_ok}
 use Rattle.rng_util.specs.Generator.{next_of, moved_of}
 use Rattle.distribution.specs.declared.Distribution.{Distribution}
 use Rattle.distribution.specs.declared.ParamValue.{ParamValue}
@@ -30,7 +31,7 @@ use Rattle.distribution_words.specs.Words.{read_of, checked_of, int_read}
 use Rattle.encoding.specs.Encode.{encoded_of, to_internal_of}
 use Rattle.common.specs.Decode.{from_internal_of, decoded_of}
 use Rattle.common.specs.Grid.{int_grid}
-use Rattle.common.specs.Random.{sample_random_of, random_of, int_random, linear_int_random, categorical_random, from_whole}
+use Rattle.common.specs.Random.{sample_random_of, random_of, int_random, linear_int_random, categorical_random}
 use Rattle.gp_model.specs.Fit.{fit_domain, fitted_of, fit_of}
 use Rattle.gp_model.specs.Kernels.{covariance_of, similarity_of}
 use Rattle.search.specs.Search.{advance_of, optimum_of}
@@ -47,7 +48,6 @@ use Rattle.history.specs.Training.{entry_of, column_of, kept_of, trains_of, cove
 use Rattle.history_view.specs.View.{view_of}
 use Rattle.settings.specs.declared.Settings.{Settings}
 use Rattle.settings.specs.Settings.{settings_ok}
-use Rattle.proposal.specs.declared.Proposal.{Proposal}
 use Rattle.proposal.specs.Points.{point_for}
 use Rattle.proposal.specs.Proposal.{candidate_of, compute_candidate_of}
 use Rattle.dimensions.specs.Empty.{empty_value}
@@ -62,10 +62,10 @@ abbrev dims : List DimensionInfo
 dims = dimension_of (Distribution.Categorical (record { n_choices = 5 })) ∷ dimension_of (Distribution.Int (record { low = pos 0; high = pos 9; log_scale = false; stepped = false; step = pos 0 })) ∷ []
 
 -- words drawn and the two values
-abbrev told : Proposal → ℕ × ParamValue × ParamValue
-told p = (p.drawn, get_or p.values 0 empty_value, get_or p.values 1 empty_value)
+abbrev told : Draw (List ParamValue) → ℕ × ParamValue × ParamValue
+told p = (p.drawn, get_or p.value 0 empty_value, get_or p.value 1 empty_value)
 
-abbrev said : Result Proposal Refusal → Result (ℕ × ParamValue × ParamValue) Refusal
+abbrev said : Result (Draw (List ParamValue)) Refusal → Result (ℕ × ParamValue × ParamValue) Refusal
 said r = made told r
 
 abbrev New : Type 0
@@ -79,7 +79,7 @@ New =
     × (compute_candidate_of (settings 0) dims 2 1 (7 ∷ []) ≡ Err BrokenRows)
 
 new : New
-unfolding compute_candidate_of candidate_of point_for step_of walk_of settings_ok view_of training_of recent_training kept_of trains_of covers_of x_of y_of asked_of mapped_of entries_of insert_by_id first_entry matches_of dimension_ok dimensions_ok columns_of whole_rows row_count recent_count recent_of recent_tests check_of fit_of fit_domain all_within from_normalized_of bounds_of ends_of from_internal_of decoded_of int_grid sample_random_of random_of int_random linear_int_random categorical_random from_whole shape_of int_shape int_step categorical_shape whole_draw_of whole_at range_ok unit_of next_of moved_of nearest_of round_of every grown place_of places_of of_bits to_bits of_int to_signed round add sub mul div neg le lt eq is_nan
+unfolding compute_candidate_of candidate_of point_for step_of walk_of settings_ok view_of training_of recent_training kept_of trains_of covers_of x_of y_of asked_of mapped_of entries_of insert_by_id first_entry matches_of dimension_ok dimensions_ok columns_of whole_rows row_count recent_count recent_of recent_tests check_of fit_of fit_domain all_within from_normalized_of bounds_of ends_of from_internal_of decoded_of int_grid sample_random_of random_of int_random linear_int_random categorical_random shape_of int_shape int_step categorical_shape word_draw_of whole_draw_of whole_at range_ok unit_of next_of moved_of nearest_of round_of every grown place_of places_of of_bits to_bits of_int to_signed round add sub mul div neg le lt eq is_nan
 new = (refl, refl, refl, refl)
 
 -- one row, the int taken at 5: start-up 1 is reached, the fit gives a model, and without candidates every coordinate is 0.5, which decodes to 5; the choice takes the one word
@@ -87,5 +87,5 @@ abbrev Modelled : Type 0
 Modelled = said (compute_candidate_of (settings 1) dims 2 1 (7 ∷ 1 ∷ 0 ∷ 9 ∷ 2 ∷ 0 ∷ 9 ∷ 0 ∷ 0 ∷ 0 ∷ 5 ∷ [])) ≡ Ok (1, ParamValue.Categorical 1, ParamValue.Int (pos 5))
 
 modelled : Modelled
-unfolding compute_candidate_of candidate_of point_for step_of walk_of settings_ok view_of training_of recent_training slot_with entry_of column_of kept_of trains_of covers_of x_of y_of asked_of mapped_of entries_of insert_by_id first_entry consumed_of matches_of dimension_ok dimensions_ok columns_of whole_rows row_count recent_count recent_of row_ok slot_read slot_ok agreeing slots_ok ids_once rows_agreeing recent_tests check_of equal_of int_equal taken_of value_of int_taken read_of checked_of int_read encoded_of to_internal_of to_normalized_of optimum_of advance_of fit_of fit_domain fitted_of all_within covariance_of similarity_of lengthscale_of variance_of mean_of cholesky_of factor_columns rows_of less_of matern52_of scaled_root_of decay_of sum_over exp_of horner_of reduced_of scaled_of whole_of sqrt_of root_of isqrt from_normalized_of bounds_of ends_of from_internal_of decoded_of int_grid sample_random_of random_of int_random linear_int_random categorical_random from_whole shape_of int_shape int_step categorical_shape whole_draw_of whole_at range_ok unit_of next_of moved_of nearest_of round_of every grown place_of places_of of_bits to_bits of_int to_signed round add sub mul div neg le lt eq is_nan
+unfolding compute_candidate_of candidate_of point_for step_of walk_of settings_ok view_of training_of recent_training slot_with entry_of column_of kept_of trains_of covers_of x_of y_of asked_of mapped_of entries_of insert_by_id first_entry consumed_of matches_of dimension_ok dimensions_ok columns_of whole_rows row_count recent_count recent_of row_ok slot_read slot_ok agreeing slots_ok ids_once rows_agreeing recent_tests check_of equal_of int_equal taken_of value_of int_taken read_of checked_of int_read encoded_of to_internal_of to_normalized_of optimum_of advance_of fit_of fit_domain fitted_of all_within covariance_of similarity_of lengthscale_of variance_of mean_of cholesky_of factor_columns rows_of less_of matern52_of scaled_root_of decay_of sum_over exp_of horner_of reduced_of scaled_of whole_of sqrt_of root_of isqrt from_normalized_of bounds_of ends_of from_internal_of decoded_of int_grid sample_random_of random_of int_random linear_int_random categorical_random shape_of int_shape int_step categorical_shape word_draw_of whole_draw_of whole_at range_ok unit_of next_of moved_of nearest_of round_of every grown place_of places_of of_bits to_bits of_int to_signed round add sub mul div neg le lt eq is_nan
 modelled = refl

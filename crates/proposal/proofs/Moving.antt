@@ -1,23 +1,22 @@
 -- The word after a new trial's values is the word before them, moved as often as the answer says. Assumes nothing.
-use Prim.Native.Nat.{ℕ, zero, suc, ◌+◌, ◌*◌, ◌<◌}
-use mathlib.Core.Path.{◌≡◌, refl, sym, ap, ◌∙◌, subst}
+use Prim.Native.Nat.{ℕ, ◌*◌, ◌<◌}
+use mathlib.Core.Path.{◌≡◌, refl, ap, ◌∙◌, subst}
 use mathlib.Core.Bool.{Bool, true, false, ◌&&◌, cond}
-use mathlib.Core.List.{List, []}
-use native.Mathlib.Nat.{add_comm, zero-add}
+use mathlib.Core.List.{List}
 use native.Mathlib.Omega.{arith}
 use lib.Dec.{T, eqb, leb, le→leb}
-use lib.ListN.{length, get_or, take}
-use lib.Ieee.{Float, nan}
+use lib.ListN.{length, take}
+use lib.Ieee.{Float}
 use lib.Ieee.Bits.{is_true}
 use borrow.Author.Tests.{eq-eqb, ne_eqb, eqb-false}
-use Rattle.std.specs.Prelude.{Result, Ok, Err}
+use Rattle.std.specs.Prelude.{Some, None, Result, Ok, Err}
 use Rattle.refusal.specs.declared.Refusal.{Refusal}
 use Rattle.refusal.specs.declared.Refusal.TheVariants.{OutOfDomain, NoRows}
-use Rattle.arith.specs.Lists.{padded}
 use Rattle.arith.proofs.Tests.{taken}
 use Rattle.distribution.proofs.Facts.{parts}
+use Rattle.rng_util.specs.declared.Draw.{Draw}
 use Rattle.rng_util.specs.Generator.{moved_of}
-use Rattle.rng_util.proofs.Stream.{moved-add}
+use Rattle.distribution.specs.declared.ParamValue.{ParamValue}
 use Rattle.factor.specs.Cholesky.{cholesky_of}
 use Rattle.gp_model.specs.declared.Model.{Model}
 use Rattle.gp_model.specs.Fit.{fit_domain, model_of, factored_of, fitted_of, fit_of}
@@ -29,30 +28,13 @@ use Rattle.search.proofs.Earliest.{earliest}
 use Rattle.dimensions.specs.declared.DimensionInfo.{DimensionInfo}
 use Rattle.history.specs.declared.Training.{Training}
 use Rattle.history_view.specs.declared.View.{View}
-use Rattle.dimensions.specs.Dimensions.{dimension_at, columns_of}
 use Rattle.history_view.specs.View.{seen_of}
 use Rattle.settings.specs.declared.Settings.{Settings}
-use Rattle.proposal.specs.declared.Point.{Point}
-use Rattle.proposal.specs.declared.Proposal.{Proposal}
-use Rattle.proposal.specs.Proposal.{from_point, at_random, candidate_of, compute_candidate_of}
+use Rattle.proposal.specs.Proposal.{after, from_point, candidate_of, compute_candidate_of}
 use Rattle.proposal.specs.Points.{fit_for, point_by, point_for}
-use Rattle.proposal.specs.Values.{step_of, walk_of}
+use Rattle.proposal.specs.Values.{walked_of}
 use Rattle.proposal.proofs.Numbers.{made-by}
-use Rattle.proposal.proofs.Walk.{step-moves}
-
--- some moves, and then some more
-moves-on : (a b w : ℕ) → moved_of b (moved_of a w) ≡ moved_of (a + b) w
-moves-on a b w = sym (moved-add b a w) ∙ ap (λ (k : ℕ). moved_of k w) (add_comm b a)
-
-pub walk-moves : (given : Bool) (point : List Float) (dims : List DimensionInfo) (w j : ℕ) → (walk_of given point dims j w).next ≡ moved_of (walk_of given point dims j w).drawn w
-unfolding walk_of
-walk-moves given point dims w zero = unfold moved_of in refl
-walk-moves given point dims w (suc j) =
-    let b = walk_of given point dims j w in
-    let r = step_of given (dimension_at dims j) (get_or point (length (columns_of dims j)) nan) b.next in
-    (step-moves given (dimension_at dims j) (get_or point (length (columns_of dims j)) nan) b.next).next
-    ∙ ap (moved_of r.drawn) (walk-moves given point dims w j)
-    ∙ moves-on b.drawn r.drawn w
+use Rattle.proposal.proofs.Walk.{unmade, moves-on, walked-in}
 
 -- ---- a fit that is accepted has a model of its rows and columns
 
@@ -105,20 +87,20 @@ point-moves t noise candidates w = go (fit_for t noise) refl
     go (Err r) e = refl
 
 module _ (s : Settings) (dims : List DimensionInfo) (k w : ℕ) where
-  candidate-moves : (v : View) → (candidate_of s dims k w v).next ≡ moved_of (candidate_of s dims k w v).drawn w
+  candidate-moves : (v : View) (c : Draw (List ParamValue)) → candidate_of s dims k w v ≡ Ok c → c.next ≡ moved_of c.drawn w
   unfolding candidate_of
-  candidate-moves v = go (v.reached && leb 1 v.training.d)
+  candidate-moves v c = go (v.reached && leb 1 v.training.d)
     where
-      p : Point
+      p : Draw (List Float)
       p = point_for v.training s.noise_variance s.n_candidates w
 
-      go : (b : Bool) → (cond b (from_point dims k p) (at_random dims k w)).next ≡ moved_of (cond b (from_point dims k p) (at_random dims k w)).drawn w
-      go true =
-          walk-moves true p.x dims p.next k
-          ∙ ap (moved_of (walk_of true p.x dims k p.next).drawn) (point-moves v.training s.noise_variance s.n_candidates w)
-          ∙ moves-on p.drawn (walk_of true p.x dims k p.next).drawn w
-      go false = walk-moves false (padded 20 []) dims w k ∙ ap (λ (m : ℕ). moved_of m w) (sym (zero-add (walk_of false (padded 20 []) dims k w).drawn))
+      go : (b : Bool) → cond b (from_point dims k p) (walked_of None dims k w) ≡ Ok c → c.next ≡ moved_of c.drawn w
+      go true e =
+          let u = unmade (after p.drawn) (walked_of (Some p.value) dims k p.next) c e in
+          subst (λ (d : Draw (List ParamValue)). d.next ≡ moved_of d.drawn w) u.2
+          ((walked-in (Some p.value) dims p.next k u.0 u.1).next ∙ ap (moved_of u.0.drawn) (point-moves v.training s.noise_variance s.n_candidates w) ∙ moves-on p.drawn u.0.drawn w)
+      go false e = (walked-in None dims w k c e).next
 
   -- for every argument
-  pub compute-moves : (h : List ℕ) (c : Proposal) → compute_candidate_of s dims k w h ≡ Ok c → c.next ≡ moved_of c.drawn w
-  compute-moves h c e = subst (λ (p : Proposal). p.next ≡ moved_of p.drawn w) (made-by s dims k w h c e).is (candidate-moves (seen_of s.slots s.n_startup_trials dims k h))
+  pub compute-moves : (h : List ℕ) (c : Draw (List ParamValue)) → compute_candidate_of s dims k w h ≡ Ok c → c.next ≡ moved_of c.drawn w
+  compute-moves h c e = candidate-moves (seen_of s.slots s.n_startup_trials dims k h) c (made-by s dims k w h c e).is

@@ -23,7 +23,7 @@ use Rattle.history.specs.declared.Training.{Training}
 use Rattle.refusal.specs.Numbers.{number_of}
 use Rattle.param_mapping.specs.Mapping.{asked_of}
 use Rattle.history_view.specs.View.{view_of, seen_of}
-use Rattle.arith.specs.Outcome.{made}
+use Rattle.arith.specs.Outcome.{and_then}
 use Rattle.refusal.specs.declared.Refusal.TheVariants.{OutOfDomain}
 use Rattle.history.proofs.Counts.{Counts, training-counts}
 use Rattle.history_view.proofs.Views.{none-refused, view-number, seen-training, view-seen}
@@ -31,7 +31,8 @@ use Rattle.param_mapping.proofs.Opened.{opened}
 use Rattle.settings.specs.declared.Settings.{Settings}
 use Rattle.settings.specs.Settings.{settings_ok}
 use Rattle.proposal.specs.Points.{fit_for, point_by, point_for}
-use Rattle.proposal.specs.declared.Proposal.{Proposal}
+use Rattle.rng_util.specs.declared.Draw.{Draw}
+use Rattle.distribution.specs.declared.ParamValue.{ParamValue}
 use Rattle.proposal.specs.Proposal.{candidate_of, compute_candidate_of}
 
 pub point_few : (t : Training) (noise : Float) (candidates w : ℕ) → candidates ≤ 10000 → t.d ≤ 20 → (point_for t noise candidates w).drawn ≤ 200000
@@ -45,26 +46,26 @@ point_few t noise candidates w h k = go (fit_for t noise)
 module _ (s : Settings) (dims : List DimensionInfo) (k w : ℕ) (h : List ℕ) where
   -- where nothing is refused
   pub accepted-is : settings_ok s ≡ true → (w ≡ 0 → ⊥) → asked_of s.slots dims k h ≡ Ok tt
-      → compute_candidate_of s dims k w h ≡ Ok (candidate_of s dims k w (seen_of s.slots s.n_startup_trials dims k h))
+      → compute_candidate_of s dims k w h ≡ candidate_of s dims k w (seen_of s.slots s.n_startup_trials dims k h)
   unfolding compute_candidate_of
   accepted-is o z e = rw (o, ne_eqb w 0 z, view-seen s.slots s.n_startup_trials dims k h (rw e))
 
   -- values that are made: no test failed, of the settings, the word and the history
-  pub record Made (c : Proposal) : Type 0 where
+  pub record Made (c : Draw (List ParamValue)) : Type 0 where
     pub settings : settings_ok s ≡ true
     pub word : w ≡ 0 → ⊥
     pub asked : asked_of s.slots dims k h ≡ Ok tt
-    pub is : candidate_of s dims k w (seen_of s.slots s.n_startup_trials dims k h) ≡ c
+    pub is : candidate_of s dims k w (seen_of s.slots s.n_startup_trials dims k h) ≡ Ok c
 
-  pub made-by : (c : Proposal) → compute_candidate_of s dims k w h ≡ Ok c → Made c
+  pub made-by : (c : Draw (List ParamValue)) → compute_candidate_of s dims k w h ≡ Ok c → Made c
   unfolding compute_candidate_of
   made-by c = go (settings_ok s) (eqb w 0) (view_of s.slots s.n_startup_trials dims k h) refl refl refl
     where
       go : (a b : Bool) (v : Result View Refusal) → settings_ok s ≡ a → eqb w 0 ≡ b → view_of s.slots s.n_startup_trials dims k h ≡ v
-          → cond (a && not b) (made (candidate_of s dims k w) v) (Err OutOfDomain) ≡ Ok c → Made c
+          → cond (a && not b) (and_then v (candidate_of s dims k w)) (Err OutOfDomain) ≡ Ok c → Made c
       go true false (Ok v) p q r e =
           let n = none-refused (asked_of s.slots dims k h) (sym (view-number s.slots s.n_startup_trials dims k h) ∙ ap number_of r) in
-          record { settings = p; word = eqb-false w 0 q; asked = n; is = rw r (cc) }
+          record { settings = p; word = eqb-false w 0 q; asked = n; is = rw r e }
       go true false (Err f) p q r e = cc
       go true true v p q r e = cc
       go false b v p q r e = cc

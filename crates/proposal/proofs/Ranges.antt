@@ -2,21 +2,22 @@
 use Prim.Native.Nat.{ℕ, zero, suc, ◌+◌, ◌*◌, ◌^◌, ◌<◌}
 use mathlib.Core.Path.{◌≡◌, refl, sym, ap, ◌∙◌, subst}
 use mathlib.Core.Bool.{Bool, true, false, ◌&&◌, ◌||◌, cond}
-use mathlib.Core.List.{List, [], ◌∷◌, ◌++◌}
+use mathlib.Core.List.{List, []}
 use mathlib.Core.Logic.{◌⊎◌, inl, inr}
 use native.Mathlib.Nat.{eq-or-lt_of_le, eq-zero-or-pos, le_of_suc-le-suc, not-suc-le-zero}
 use native.Mathlib.Omega.{arith}
 use lib.Dec.{T, eqb, leb}
-use lib.ListN.{length, get_or, replicate, length-replicate, get_or-replicate, get_or-append}
-use lib.Seq.{get_or-append_seam}
+use lib.ListN.{length, get_or, replicate, length-replicate, get_or-replicate}
 use lib.Ieee.{Float, nan, binary64, fits, le, of_bits, of_int}
 use lib.Ieee.Bits.{is_true}
-use lib.Ieee.Fits.{and_l, and_r}
+use lib.Ieee.Fits.{and_l}
 use Rattle.arith.specs.Bounds.{Between}
-use Rattle.arith.specs.Lists.{list_of, filled, padded}
-use Rattle.arith.proofs.Lists.{grown-at, grown-padded-at, filled_at, padded-at}
+use Rattle.arith.specs.Lists.{list_of, padded}
+use Rattle.arith.proofs.Lists.{grown-at, grown-padded-at, padded-at}
 use Rattle.arith.proofs.Order as order
-use Rattle.arith.proofs.Tests.{taken}
+use Rattle.arith.proofs.Tests.{taken, by-test}
+use Rattle.arith.specs.Outcome.{made}
+use Rattle.rng_util.specs.declared.Draw.{Draw}
 use Rattle.rng_util.specs.Draws.{unit_of}
 use Rattle.rng_util.specs.Generator.{next_of, moved_of, stream_of}
 use Rattle.rng_util.proofs.Nonzero.{Nonzero, next-nonzero, moved-nonzero}
@@ -27,11 +28,10 @@ use Rattle.distribution_words.specs.RoundTrip.{Held}
 use Rattle.distribution.specs.Shape.{shape_of, continuous_of}
 use Rattle.distribution.specs.Taken.{taken_of}
 use Rattle.distribution.proofs.Facts.{parts}
-use Rattle.common.specs.declared.RandomDraw.{RandomDraw}
 use Rattle.common.specs.Decode.{one}
 use Rattle.common.specs.Random.{sample_random_of}
 use Rattle.common.proofs.Facts.{Inside, Ranged, decode-accepted, random-accepted}
-use Rattle.std.specs.Prelude.{Result, Ok, Err}
+use Rattle.std.specs.Prelude.{Option, Some, None, Result, Ok, Err}
 use Rattle.refusal.specs.declared.Refusal.{Refusal}
 use Rattle.refusal.specs.declared.Refusal.TheVariants.{OutOfDomain, NoRows, Pivot}
 use Rattle.refusal.specs.Numbers.{number_of}
@@ -50,13 +50,12 @@ use Rattle.history_view.specs.declared.View.{View}
 use Rattle.dimensions.specs.Dimensions.{dimension_at, dimension_ok, columns_of}
 use Rattle.history_view.proofs.Values.{Column, floats-fit, bounds-shape, shape, ends}
 use Rattle.settings.specs.declared.Settings.{Settings}
-use Rattle.proposal.specs.declared.Point.{Point}
 use Rattle.proposal.specs.Points.{fit_for, point_by, point_for}
-use Rattle.proposal.specs.Proposal.{from_point, at_random, candidate_of}
+use Rattle.proposal.specs.Proposal.{after, from_point, candidate_of}
 use Rattle.dimensions.specs.Empty.{empty_value}
-use Rattle.proposal.specs.Values.{decode_of, step_of, walk_of}
-use Rattle.proposal.proofs.Moving.{model-columns, walk-moves, point-moves}
-use Rattle.proposal.proofs.Walk.{walk-length, columns-next}
+use Rattle.proposal.specs.Values.{decode_of, coordinate_of, undrawn, step_of, step_at, walk_more, walk_of, values_in, walked_of}
+use Rattle.proposal.proofs.Moving.{model-columns, point-moves}
+use Rattle.proposal.proofs.Walk.{walked, Step, walked-in, columns-next}
 
 -- ---- the numbers of a fit
 
@@ -116,7 +115,7 @@ drawn-coordinate : (f : ℕ → ℕ) (d i : ℕ) (x : List Float) → x ≡ padd
 drawn-coordinate f d i x e h l =
     subst Coordinate (sym (ap (λ (y : List Float). get_or y i nan) e ∙ grown-padded-at 20 (λ xs j. unit_of (f j)) d i l ∙ grown-at (λ xs j. unit_of (f j)) d i l)) (unit-coordinate (f i) (h i))
 
-pub point-coordinate : (t : Training) (noise : Float) (candidates w i : ℕ) → Nonzero w → i < t.d → Coordinate (get_or (point_for t noise candidates w).x i nan)
+pub point-coordinate : (t : Training) (noise : Float) (candidates w i : ℕ) → Nonzero w → i < t.d → Coordinate (get_or (point_for t noise candidates w).value i nan)
 unfolding point_for
 point-coordinate t noise candidates w i h l = go (fit_for t noise) refl
   where
@@ -131,7 +130,7 @@ point-coordinate t noise candidates w i h l = go (fit_for t noise) refl
           | inr p ↦ let f = r.found p in drawn-coordinate (λ j. get_or (stream_of (candidates * m.d) w) (f.0 * m.d + j) 0) m.d i (optimum_of m candidates w).x f.2 (λ j. stream-small (candidates * m.d) w (f.0 * m.d + j) h) k
         ]
 
-    go : (f : Result Model Refusal) → fit_for t noise ≡ f → Coordinate (get_or (point_by f t.d candidates w).x i nan)
+    go : (f : Result Model Refusal) → fit_for t noise ≡ f → Coordinate (get_or (point_by f t.d candidates w).value i nan)
     go (Ok m) e = searched m e
     go (Err r) e = drawn-coordinate (λ j. moved_of (suc j) w) t.d i (padded 20 (point_of t.d w)) refl (λ j. (moved-nonzero (suc j) w h).1) l
 
@@ -153,66 +152,71 @@ pub record Formed (d : DimensionInfo) : Type 0 where
   pub lo-fits : T (fits binary64 d.lo)
   pub hi-fits : T (fits binary64 d.hi)
 
-pub random-ranged : (w : ℕ) (d : Distribution) → Nonzero w → Held d → T (shape_of d) → InRange d (sample_random_of w d).value
+-- an accepted draw of a value in range
+pub record DrawnIn (d : Distribution) (r : Result (Draw ParamValue) Refusal) : Type 0 where
+  pub draw : Draw ParamValue
+  pub is : r ≡ Ok draw
+  pub range : InRange d draw.value
+
+pub random-ranged : (w : ℕ) (d : Distribution) → Nonzero w → Held d → T (shape_of d) → DrawnIn d (sample_random_of w d)
 random-ranged w d h f t =
     let r = random-accepted w d h (floats-fit d f) t in
-    subst (λ (x : RandomDraw). InRange d x.value) (sym r.is) (record { taken = r.taken; range = r.range })
+    record { draw = record { value = r.value; drawn = 1; next = next_of w }; is = r.is; range = record { taken = r.taken; range = r.range } }
 
-decode-ranged : (d : DimensionInfo) (u : Float) → Column d → Coordinate u → InRange d.distribution (decode_of d u)
-unfolding from_normalized_of
-decode-ranged d u r b =
-    let x = decode-accepted d.distribution (floats-fit d.distribution r.held) (shape d r) d.lo d.hi (ends d r) u b in
-    subst (InRange d.distribution) (sym x.is) (record { taken = x.taken; range = inside-ranged d.distribution x.value x.range })
-
-step-ranged : (given : Bool) (d : DimensionInfo) (u : Float) (w : ℕ) → Formed d → Nonzero w → (T given → T (continuous_of d.distribution) → Coordinate u)
-    → InRange d.distribution (step_of given d u w).value
-unfolding step_of
-step-ranged given d u w r h b = go (given && continuous_of d.distribution) refl
+step-ranged : (d : DimensionInfo) (u : Option Float) (w : ℕ) → Formed d → Nonzero w → ((x : Float) → u ≡ Some x → T (continuous_of d.distribution) → Coordinate x) → DrawnIn d.distribution (step_of d u w)
+unfolding step_of from_normalized_of
+step-ranged d u w r h = go u
   where
-    random : InRange d.distribution (sample_random_of w d.distribution).value
+    random : DrawnIn d.distribution (sample_random_of w d.distribution)
     random = random-ranged w d.distribution h r.held (bounds-shape d.distribution d.lo d.hi (unfold dimension_ok in r.ok))
 
-    decoded : T given → T (continuous_of d.distribution) → InRange d.distribution (decode_of d u)
-    decoded g c = decode-ranged d u (record { ok = r.ok; continuous = c; held = r.held; lo-fits = r.lo-fits; hi-fits = r.hi-fits }) (b g c)
+    decoded : (x : Float) → T (continuous_of d.distribution) → Coordinate x → DrawnIn d.distribution (made (undrawn w) (decode_of d x))
+    decoded x c b =
+        let q : Column d = record { ok = r.ok; continuous = c; held = r.held; lo-fits = r.lo-fits; hi-fits = r.hi-fits } in
+        let v = decode-accepted d.distribution (floats-fit d.distribution r.held) (shape d q) d.lo d.hi (ends d q) x b in
+        record { draw = undrawn w v.value; is = ap (made (undrawn w)) v.is; range = record { taken = v.taken; range = inside-ranged d.distribution v.value v.range } }
 
-    go : (x : Bool) → (given && continuous_of d.distribution) ≡ x → InRange d.distribution (cond x (record { value = decode_of d u; drawn = 0; next = w }) (sample_random_of w d.distribution)).value
-    go true e = decoded (and_l given (continuous_of d.distribution) (taken e)) (and_r given (continuous_of d.distribution) (taken e))
-    go false e = random
+    go : (u : Option Float) → ((x : Float) → u ≡ Some x → T (continuous_of d.distribution) → Coordinate x) → DrawnIn d.distribution (step_of d u w)
+    go None b = random
+    go (Some x) b = by-test (DrawnIn d.distribution) (continuous_of d.distribution) _ _ (λ c. decoded x (taken c) (b x refl (taken c))) (λ _. random)
 
 -- ---- the values of a walk
 
--- the coordinate of dimension j
-abbrev coordinate_at : List Float → List DimensionInfo → ℕ → Float
-coordinate_at point dims j = get_or point (length (columns_of dims j)) nan
+-- an accepted answer of values in range
+pub record Ready (dims : List DimensionInfo) (k : ℕ) (r : Result (Draw (List ParamValue)) Refusal) : Type 0 where
+  pub made : Draw (List ParamValue)
+  pub is : r ≡ Ok made
+  pub range : (i : ℕ) → i < k → InRange (dimension_at dims i).distribution (get_or made.value i empty_value)
 
-module _ (given : Bool) (point : List Float) (dims : List DimensionInfo) (w : ℕ) (h : Nonzero w) where
+module _ (point : Option (List Float)) (dims : List DimensionInfo) (w : ℕ) (h : Nonzero w) where
   -- what the first k dimensions ask
   record Asks (k : ℕ) : Type 0 where
     formed : (j : ℕ) → j < k → Formed (dimension_at dims j)
-    coordinate : T given → (j : ℕ) → j < k → T (continuous_of (dimension_at dims j).distribution) → Coordinate (coordinate_at point dims j)
+    coordinate : (j : ℕ) → j < k → (x : Float) → coordinate_of point (length (columns_of dims j)) ≡ Some x → T (continuous_of (dimension_at dims j).distribution) → Coordinate x
 
-  walk-ranged : (k : ℕ) → Asks k → (i : ℕ) → i < k → InRange (dimension_at dims i).distribution (get_or (walk_of given point dims k w).values i empty_value)
+  step-in : (k : ℕ) → Asks k → (i n : ℕ) → i < k → DrawnIn (dimension_at dims i).distribution (step_at point dims i (moved_of n w))
+  step-in k a i n l = step-ranged (dimension_at dims i) (coordinate_of point (length (columns_of dims i))) (moved_of n w) (a.formed i l) (moved-nonzero n w h) (a.coordinate i l)
+
+  walk-accepted : (k : ℕ) → Asks k → (b : Draw (List ParamValue)) × (walk_of point dims k w ≡ Ok b)
   unfolding walk_of
-  walk-ranged zero a i l = absurd (not-suc-le-zero l)
-  walk-ranged (suc k) a i l =
-      let b = walk_of given point dims k w in
-      let r = step_of given (dimension_at dims k) (coordinate_at point dims k) b.next in
-      let s : ParamValue = r.value in
-      let last = subst (λ (j : ℕ). get_or (b.values ++ (s ∷ [])) j empty_value ≡ s) (walk-length given point dims w k) (get_or-append_seam b.values s [] empty_value) in
-      let z : Nonzero b.next = subst Nonzero (sym (walk-moves given point dims w k)) (moved-nonzero b.drawn w h) in
-      elim (eq-or-lt_of_le (le_of_suc-le-suc l)) [
-        | inl e ↦ subst (λ (j : ℕ). InRange (dimension_at dims j).distribution (get_or (b.values ++ (s ∷ [])) j empty_value)) (sym e)
-            (subst (InRange (dimension_at dims k).distribution) (sym last)
-            (step-ranged given (dimension_at dims k) (coordinate_at point dims k) b.next (a.formed k (omega arith)) z (λ g. a.coordinate g k (omega arith))))
-        | inr m ↦ subst (InRange (dimension_at dims i).distribution)
-            (sym (get_or-append b.values (s ∷ []) empty_value i (subst (λ (n : ℕ). i < n) (sym (walk-length given point dims w k)) m)))
-            (walk-ranged k (record { formed = λ j q. a.formed j (omega arith); coordinate = λ g j q. a.coordinate g j (omega arith) }) i m)
-      ]
+  walk-accepted zero a = (record { value = []; drawn = 0; next = w }, refl)
+  walk-accepted (suc k) a =
+      let p = walk-accepted k (record { formed = λ j l. a.formed j (omega arith); coordinate = λ j l. a.coordinate j (omega arith) }) in
+      let n = (walked point dims w k p.0 p.1).next in
+      let r = step-in (suc k) a k p.0.drawn (omega arith) in
+      (walk_more p.0 r.draw, rw (p.1, n, r.is))
 
-  filled-ranged : (k : ℕ) → Asks k → (i : ℕ) → i < k → InRange (dimension_at dims i).distribution (get_or (filled empty_value 20 (walk_of given point dims k w).values) i empty_value)
-  filled-ranged k a i l =
-      subst (InRange (dimension_at dims i).distribution)
-      (sym (filled_at empty_value 20 (walk_of given point dims k w).values i empty_value (subst (λ (n : ℕ). i < n) (sym (walk-length given point dims w k)) l))) (walk-ranged k a i l)
+  walk-ranged : (k : ℕ) → Asks k → Ready dims k (walked_of point dims k w)
+  walk-ranged k a =
+      let p = walk-accepted k a in
+      let e : walked_of point dims k w ≡ Ok (values_in p.0) = ap (made values_in) p.1 in
+      record { made = values_in p.0; is = e; range = λ i l. ranged i l ((walked-in point dims w k (values_in p.0) e).values i l) }
+    where
+      ranged : (i : ℕ) {v : ParamValue} → i < k → Step point dims w i v → InRange (dimension_at dims i).distribution v
+      ranged i l s =
+          let r = step-in k a i s.moves l in
+          let q : r.draw ≡ s.draw = cc (r.is, s.is) in
+          rw s.value (subst (λ (d : Draw ParamValue). InRange (dimension_at dims i).distribution d.value) q r.range)
 
 -- a continuous dimension has a column of its own
 pub column-below : (dims : List DimensionInfo) (k j : ℕ) → j < k → T (continuous_of (dimension_at dims j).distribution) → length (columns_of dims j) < length (columns_of dims k)
@@ -229,21 +233,20 @@ column-below dims (suc k) j l c =
 
 pub candidate-ranged : (s : Settings) (dims : List DimensionInfo) (k w : ℕ) (v : View) → Nonzero w → (T v.reached → v.training.d ≡ length (columns_of dims k))
     → ((j : ℕ) → j < k → Formed (dimension_at dims j))
-    → (i : ℕ) → i < k → InRange (dimension_at dims i).distribution (get_or (candidate_of s dims k w v).values i empty_value)
+    → Ready dims k (candidate_of s dims k w v)
 unfolding candidate_of
-candidate-ranged s dims k w v h columns formed i l = go (v.reached && leb 1 v.training.d) refl
+candidate-ranged s dims k w v h columns formed =
+    by-test (Ready dims k) (v.reached && leb 1 v.training.d) _ _ (λ e. given (and_l v.reached (leb 1 v.training.d) (taken e))) (λ _. walk-ranged None dims w h k (record { formed = formed; coordinate = λ j l x e. absurd (cc) }))
   where
-    p : Point
+    p : Draw (List Float)
     p = point_for v.training s.noise_variance s.n_candidates w
 
-    given : T v.reached → InRange (dimension_at dims i).distribution (get_or (filled empty_value 20 (walk_of true p.x dims k p.next).values) i empty_value)
+    given : T v.reached → Ready dims k (from_point dims k p)
     given r =
         let z : Nonzero p.next = subst Nonzero (sym (point-moves v.training s.noise_variance s.n_candidates w)) (moved-nonzero p.drawn w h) in
-        filled-ranged true p.x dims p.next z k (record {
+        let b = walk-ranged (Some p.value) dims p.next z k (record {
           formed = formed;
-          coordinate = λ g j m c. point-coordinate v.training s.noise_variance s.n_candidates w (length (columns_of dims j)) h (rw (columns r) (column-below dims k j m c));
-        }) i l
-
-    go : (b : Bool) → (v.reached && leb 1 v.training.d) ≡ b → InRange (dimension_at dims i).distribution (get_or (cond b (from_point dims k p) (at_random dims k w)).values i empty_value)
-    go true e = given (and_l v.reached (leb 1 v.training.d) (taken e))
-    go false e = filled-ranged false (padded 20 []) dims w h k (record { formed = formed; coordinate = λ g. absurd g }) i l
+          coordinate = λ j m x e c. let q : get_or p.value (length (columns_of dims j)) nan ≡ x = cc in
+              subst Coordinate q (point-coordinate v.training s.noise_variance s.n_candidates w (length (columns_of dims j)) h (rw (columns r) (column-below dims k j m c)));
+        }) in
+        record { made = after p.drawn b.made; is = ap (made (after p.drawn)) b.is; range = b.range }

@@ -1,23 +1,26 @@
 -- How many words a new trial's values take: with a model candidates × continuous + choices, without one the dimension count. Assumes nothing.
-use Prim.Native.Nat.{ℕ, zero, suc, ◌+◌, ◌*◌, ◌-◌, ◌^◌, ◌<◌}
+use Prim.Native.Nat.{ℕ, suc, ◌+◌, ◌*◌, ◌-◌, ◌^◌, ◌≤◌, ◌<◌}
 use mathlib.Core.Path.{◌≡◌, refl, sym, ap, ◌∙◌, subst}
 use mathlib.Core.Bool.{Bool, true, false, ◌&&◌, cond}
 use mathlib.Core.List.{List, []}
-use native.Mathlib.Nat.{pos_of_ne-zero}
+use native.Mathlib.Nat.{le_refl, pos_of_ne-zero}
 use native.Mathlib.Omega.{arith}
 use lib.Dec.{T, leb}
-use lib.ListN.{length, get_or}
-use lib.Ieee.{Float, nan}
-use Rattle.arith.specs.Lists.{padded, places_of}
+use lib.ListN.{length}
+use lib.Ieee.{Float}
+use Rattle.arith.specs.Lists.{places_of}
 use Rattle.rng_util.proofs.Nonzero.{Nonzero, moved-nonzero}
 use Rattle.distribution.specs.declared.Distribution.{Distribution}
 use Rattle.distribution_words.specs.RoundTrip.{Held}
 use Rattle.distribution.specs.Shape.{shape_of, continuous_of}
-use Rattle.common.specs.declared.RandomDraw.{RandomDraw}
+use Rattle.arith.specs.Outcome.{made}
+use Rattle.rng_util.specs.declared.Draw.{Draw}
+use Rattle.rng_util.specs.Draws.{drawn_by}
+use Rattle.distribution.specs.declared.ParamValue.{ParamValue}
 use Rattle.common.specs.Random.{sample_random_of}
 use Rattle.encoding.proofs.EndLaws.{FloatsFit}
 use Rattle.common.proofs.Facts.{random-accepted}
-use Rattle.std.specs.Prelude.{Result, Ok, Err, is_ok}
+use Rattle.std.specs.Prelude.{Option, Some, None, Result, Ok, Err, is_ok}
 use Rattle.refusal.specs.declared.Refusal.{Refusal}
 use Rattle.gp_model.specs.declared.Model.{Model}
 use Rattle.dimensions.specs.declared.DimensionInfo.{DimensionInfo}
@@ -32,29 +35,40 @@ use Rattle.param_mapping.proofs.Opened.{accepted}
 use Rattle.dimensions.proofs.Ok.{dimensions-ok}
 use Rattle.history_view.proofs.Values.{floats-fit, bounds-shape}
 use Rattle.settings.specs.declared.Settings.{Settings}
-use Rattle.proposal.specs.declared.Proposal.{Proposal}
 use Rattle.proposal.specs.Points.{fit_for, point_by, point_for}
-use Rattle.proposal.specs.Proposal.{from_point, at_random, candidate_of, compute_candidate_of}
-use Rattle.proposal.specs.Values.{decode_of, step_of, walk_of}
-use Rattle.proposal.proofs.Moving.{walk-moves, point-moves}
+use Rattle.proposal.specs.Proposal.{after, from_point, candidate_of, compute_candidate_of}
+use Rattle.proposal.specs.Values.{decode_of, coordinate_of, undrawn, step_of, step_at, walk_more, walk_of, values_in, walked_of}
+use Rattle.proposal.proofs.Moving.{point-moves}
 use Rattle.proposal.proofs.Numbers.{made-by}
-use Rattle.proposal.proofs.Walk.{columns-next}
+use Rattle.proposal.proofs.Walk.{unmade, walk-all, walked, columns-next}
 
 -- a distribution whose draws are accepted
 abbrev pub Drawable : Distribution → Type 0
 Drawable d = FloatsFit d × T (shape_of d)
 
 -- each draw takes one word
-pub random-word : (w : ℕ) (d : Distribution) → Nonzero w → Drawable d → (sample_random_of w d).drawn ≡ 1
-random-word w d n r = ap (λ (x : RandomDraw). x.drawn) (random-accepted w d n r.0 r.1).is
+pub random-word : (w : ℕ) (d : Distribution) → Nonzero w → Drawable d → drawn_by (sample_random_of w d) ≡ 1
+random-word w d n r = ap drawn_by (random-accepted w d n r.0 r.1).is
 
-step-word : (given : Bool) (d : DimensionInfo) (u : Float) (w : ℕ) → Nonzero w → Drawable d.distribution → (step_of given d u w).drawn ≡ cond (given && continuous_of d.distribution) 0 1
+-- whether a dimension's value is decoded from a point
+abbrev given : {A : Type 0} → Option A → Bool
+given (Some x) = true
+given None = false
+
+step-word : (d : DimensionInfo) (u : Option Float) (w : ℕ) (r : Draw ParamValue) → Nonzero w → Drawable d.distribution → step_of d u w ≡ Ok r → r.drawn ≡ cond (given u && continuous_of d.distribution) 0 1
 unfolding step_of
-step-word given d u w n r = go (given && continuous_of d.distribution)
+step-word d u w r n f = go u
   where
-    go : (b : Bool) → (cond b (record { value = decode_of d u; drawn = 0; next = w }) (sample_random_of w d.distribution)).drawn ≡ cond b 0 1
-    go true = refl
-    go false = random-word w d.distribution n r
+    random : sample_random_of w d.distribution ≡ Ok r → r.drawn ≡ 1
+    random e = sym (ap drawn_by e) ∙ random-word w d.distribution n f
+
+    some : (x : Float) (b : Bool) → cond b (made (undrawn w) (decode_of d x)) (sample_random_of w d.distribution) ≡ Ok r → r.drawn ≡ cond b 0 1
+    some x true e = ap (λ (r : Draw ParamValue). r.drawn) (sym (unmade (undrawn w) (decode_of d x) r e).2)
+    some x false e = random e
+
+    go : (u : Option Float) → step_of d u w ≡ Ok r → r.drawn ≡ cond (given u && continuous_of d.distribution) 0 1
+    go None e = random e
+    go (Some x) e = some x (continuous_of d.distribution) e
 
 -- a word for each dimension that is not decoded
 one_more : (given continuous : Bool) (drawn x columns next j : ℕ) → drawn + cond given columns 0 ≡ j → x ≡ cond (given && continuous) 0 1 → columns + cond continuous 1 0 ≡ next → drawn + x + cond given next 0 ≡ suc j
@@ -62,20 +76,34 @@ one_more true true drawn x columns next j p q e = omega arith
 one_more true false drawn x columns next j p q e = omega arith
 one_more false continuous drawn x columns next j p q e = omega arith
 
-walk-words : (given : Bool) (point : List Float) (dims : List DimensionInfo) (w : ℕ) → Nonzero w → (j : ℕ) → ((i : ℕ) → i < j → Drawable (dimension_at dims i).distribution)
-    → (walk_of given point dims j w).drawn + cond given (length (columns_of dims j)) 0 ≡ j
-unfolding walk_of columns_of places_of
-walk-words given point dims w n zero r = none given
+-- of the first j dimensions of k
+abbrev Words : Option (List Float) → List DimensionInfo → ℕ → ℕ → Draw (List ParamValue) → Type 0
+Words point dims k j b = j ≤ k → b.drawn + cond (given point) (length (columns_of dims j)) 0 ≡ j
+
+walk-words : (point : Option (List Float)) (dims : List DimensionInfo) (w : ℕ) → Nonzero w → (k : ℕ) → ((i : ℕ) → i < k → Drawable (dimension_at dims i).distribution)
+    → (c : Draw (List ParamValue)) → walked_of point dims k w ≡ Ok c → c.drawn + cond (given point) (length (columns_of dims k)) 0 ≡ k
+unfolding columns_of places_of
+walk-words point dims w n k r c e =
+    let u = unmade values_in (walk_of point dims k w) c e in
+    ap (λ (d : Draw (List ParamValue)). d.drawn + cond (given point) (length (columns_of dims k)) 0) (sym u.2) ∙ walk-all point dims w (Words point dims k) none more k u.0 u.1 (le_refl k)
   where
-    none : (g : Bool) → 0 + cond g 0 0 ≡ 0
-    none true = refl
-    none false = refl
-walk-words given point dims w n (suc j) r =
-    let b = walk_of given point dims j w in
-    let u = get_or point (length (columns_of dims j)) nan in
-    let m : Nonzero b.next = subst Nonzero (sym (walk-moves given point dims w j)) (moved-nonzero b.drawn w n) in
-    one_more given (continuous_of (dimension_at dims j).distribution) b.drawn (step_of given (dimension_at dims j) u b.next).drawn (length (columns_of dims j)) (length (columns_of dims (suc j))) j
-    (walk-words given point dims w n j (λ i l. r i (omega arith))) (step-word given (dimension_at dims j) u b.next m (r j (omega arith))) (columns-next dims j)
+    none : Words point dims k 0 (record { value = []; drawn = 0; next = w })
+    none l = go (given point)
+      where
+        go : (g : Bool) → 0 + cond g 0 0 ≡ 0
+        go true = refl
+        go false = refl
+
+    coordinates : (o : Option (List Float)) (c : ℕ) → given (coordinate_of o c) ≡ given o
+    coordinates (Some x) c = refl
+    coordinates None c = refl
+
+    more : (j : ℕ) (b : Draw (List ParamValue)) (r : Draw ParamValue) → walk_of point dims j w ≡ Ok b → Words point dims k j b → step_at point dims j b.next ≡ Ok r → Words point dims k (suc j) (walk_more b r)
+    more j b x e p s l =
+        let u = coordinate_of point (length (columns_of dims j)) in
+        let m : Nonzero b.next = subst Nonzero (sym (walked point dims w j b e).next) (moved-nonzero b.drawn w n) in
+        one_more (given point) (continuous_of (dimension_at dims j).distribution) b.drawn x.drawn (length (columns_of dims j)) (length (columns_of dims (suc j))) j (p (omega arith))
+        (step-word (dimension_at dims j) u b.next x m (r j (omega arith)) s ∙ ap (λ (g : Bool). cond (g && continuous_of (dimension_at dims j).distribution) 0 1) (coordinates point (length (columns_of dims j)))) (columns-next dims j)
 
 -- ---- by a view whose training data have a column for each continuous dimension
 
@@ -86,11 +114,13 @@ module _ (s : Settings) (dims : List DimensionInfo) (k w : ℕ) (n : Nonzero w) 
   abbrev words : Training → Bool → ℕ
   words t made = cond (made && is_ok (fit_for t s.noise_variance)) (s.n_candidates * columns + (k - columns)) k
 
-  point-words : (t : Training) → t.d ≡ columns → (from_point dims k (point_for t s.noise_variance s.n_candidates w)).drawn ≡ words t true
-  point-words t e =
+  point-words : (t : Training) → t.d ≡ columns → (c : Draw (List ParamValue)) → from_point dims k (point_for t s.noise_variance s.n_candidates w) ≡ Ok c → c.drawn ≡ words t true
+  point-words t e c q =
       let p = point_for t s.noise_variance s.n_candidates w in
       let m : Nonzero p.next = subst Nonzero (sym (point-moves t s.noise_variance s.n_candidates w)) (moved-nonzero p.drawn w n) in
-      sum (is_ok (fit_for t s.noise_variance)) p.drawn (walk_of true p.x dims k p.next).drawn (s.n_candidates * columns) drawn (walk-words true p.x dims p.next m k ready)
+      let u = unmade (after p.drawn) (walked_of (Some p.value) dims k p.next) c q in
+      ap (λ (d : Draw (List ParamValue)). d.drawn) (sym u.2)
+      ∙ sum (is_ok (fit_for t s.noise_variance)) p.drawn u.0.drawn (s.n_candidates * columns) drawn (walk-words (Some p.value) dims p.next m k ready u.0 u.1)
     where
       drawn : (point_for t s.noise_variance s.n_candidates w).drawn ≡ cond (is_ok (fit_for t s.noise_variance)) (s.n_candidates * columns) columns
       drawn = unfold point_for in go (fit_for t s.noise_variance)
@@ -103,13 +133,13 @@ module _ (s : Settings) (dims : List DimensionInfo) (k w : ℕ) (n : Nonzero w) 
       sum true x y m p q = omega arith
       sum false x y m p q = omega arith
 
-  candidate-words : (v : View) → v.training.d ≡ columns → (candidate_of s dims k w v).drawn ≡ words v.training (v.reached && leb 1 v.training.d)
+  candidate-words : (v : View) → v.training.d ≡ columns → (c : Draw (List ParamValue)) → candidate_of s dims k w v ≡ Ok c → c.drawn ≡ words v.training (v.reached && leb 1 v.training.d)
   unfolding candidate_of
-  candidate-words v e = go (v.reached && leb 1 v.training.d)
+  candidate-words v e c = go (v.reached && leb 1 v.training.d)
     where
-      go : (b : Bool) → (cond b (from_point dims k (point_for v.training s.noise_variance s.n_candidates w)) (at_random dims k w)).drawn ≡ words v.training b
-      go true = point-words v.training e
-      go false = let p = walk-words false (padded 20 []) dims w n k ready in omega arith
+      go : (b : Bool) → cond b (from_point dims k (point_for v.training s.noise_variance s.n_candidates w)) (walked_of None dims k w) ≡ Ok c → c.drawn ≡ words v.training b
+      go true q = point-words v.training e c q
+      go false q = let p = walk-words None dims w n k ready c q in omega arith
 
 -- ---- by a history, where the values are made
 
@@ -125,10 +155,9 @@ module _ (s : Settings) (dims : List DimensionInfo) (k w : ℕ) (h : List ℕ) w
   unfolding dimension_ok
   drawable t held i l = let d = dimension_at dims i in (floats-fit d.distribution (held i l), bounds-shape d.distribution d.lo d.hi ((dimensions-ok dims k t).1 i l))
 
-  pub compute-words : w < 2 ^ 64 → ((i : ℕ) → i < k → Held (dimension_at dims i).distribution) → (c : Proposal) → compute_candidate_of s dims k w h ≡ Ok c
+  pub compute-words : w < 2 ^ 64 → ((i : ℕ) → i < k → Held (dimension_at dims i).distribution) → (c : Draw (List ParamValue)) → compute_candidate_of s dims k w h ≡ Ok c
       → c.drawn
       ≡ cond ((view.reached && leb 1 view.training.d) && is_ok (fit_for view.training s.noise_variance)) (s.n_candidates * length (columns_of dims k) + (k - length (columns_of dims k))) k
   compute-words small held c e =
       let m = made-by s dims k w h c e in
-      ap (λ (p : Proposal). p.drawn) (sym m.is)
-      ∙ candidate-words s dims k w (pos_of_ne-zero m.word, small) (drawable (accepted s.slots dims k h m.asked).0 held) view (view-columns m.asked)
+      candidate-words s dims k w (pos_of_ne-zero m.word, small) (drawable (accepted s.slots dims k h m.asked).0 held) view (view-columns m.asked) c m.is

@@ -1,43 +1,54 @@
 -- A new trial's values, dimension by dimension. Definitions only.
-use Rattle.std.specs.Prelude.{ℕ, zero, suc, ◌+◌, Bool, ◌&&◌, cond, List, [], ◌∷◌, ◌++◌, length, get_or, Float}
+use Rattle.std.specs.Prelude.{ℕ, zero, suc, ◌+◌, cond, List, [], ◌∷◌, ◌++◌, length, get_or, Float, Option, Some, None, Result, Ok}
 use Rattle.std.specs.Float.{nan}
-use Rattle.distribution.specs.Shape.{continuous_of}
+use Rattle.refusal.specs.declared.Refusal.{Refusal}
 use Rattle.arith.specs.Lists.{filled}
+use Rattle.arith.specs.Outcome.{made, and_then}
+use Rattle.rng_util.specs.declared.Draw.{Draw}
+use Rattle.distribution.specs.Shape.{continuous_of}
 use Rattle.distribution.specs.declared.ParamValue.{ParamValue}
-use Rattle.common.specs.declared.RandomDraw.{RandomDraw}
 use Rattle.common.specs.Decode.{from_internal_of}
 use Rattle.common.specs.Random.{sample_random_of}
 use Rattle.scaling.specs.Scaling.{from_normalized_of}
 use Rattle.dimensions.specs.declared.DimensionInfo.{DimensionInfo}
 use Rattle.dimensions.specs.Dimensions.{dimension_at, columns_of}
 use Rattle.dimensions.specs.Empty.{empty_value}
-use Rattle.proposal.specs.declared.Values.{Values}
 
 -- "Decoding scales each to the internal bounds as `gp.rs` does, then applies `from_internal`."
-abbrev pub decode_of : DimensionInfo → Float → ParamValue
+abbrev pub decode_of : DimensionInfo → Float → Result ParamValue Refusal
 decode_of d u = from_internal_of (from_normalized_of u d.lo d.hi) d.distribution
 
--- a dimension's value at a generator word: where a point is given, a continuous dimension's is the decoding of its coordinate u; any other is random
-unfoldable pub step_of : Bool → DimensionInfo → Float → ℕ → RandomDraw
-step_of given d u w = cond (given && continuous_of d.distribution) (record { value = decode_of d u; drawn = 0; next = w }) (sample_random_of w d.distribution)
+-- a coordinate of a point, where there is one
+abbrev pub coordinate_of : Option (List Float) → ℕ → Option Float
+coordinate_of (Some x) c = Some (get_or x c nan)
+coordinate_of None c = None
 
--- the values of some dimensions, the words drawn and the next word
-pub record Walk : Type 0 where
-  pub values : List ParamValue
-  pub drawn : ℕ
-  pub next : ℕ
+-- a value that takes no word
+abbrev pub undrawn : ℕ → ParamValue → Draw ParamValue
+undrawn w v = record { value = v; drawn = 0; next = w }
 
--- one more
-abbrev pub walk_more : Walk → RandomDraw → Walk
-walk_more b r = record { values = b.values ++ (r.value ∷ []); drawn = b.drawn + r.drawn; next = r.next }
+-- a dimension's value at a generator word: a continuous dimension's is the decoding of its coordinate, where there is one; any other is random
+unfoldable pub step_of : DimensionInfo → Option Float → ℕ → Result (Draw ParamValue) Refusal
+step_of d (Some u) w = cond (continuous_of d.distribution) (made (undrawn w) (decode_of d u)) (sample_random_of w d.distribution)
+step_of d None w = sample_random_of w d.distribution
 
--- the first j dimensions, one after the other; the coordinates of the point are those of the continuous dimensions in order
-unfoldable pub walk_of : Bool → List Float → List DimensionInfo → ℕ → ℕ → Walk
+-- one value more
+abbrev pub walk_more : Draw (List ParamValue) → Draw ParamValue → Draw (List ParamValue)
+walk_more b r = record { value = b.value ++ (r.value ∷ []); drawn = b.drawn + r.drawn; next = r.next }
+
+-- the step of dimension j; the coordinates of the point are those of the continuous dimensions in order
+abbrev pub step_at : Option (List Float) → List DimensionInfo → ℕ → ℕ → Result (Draw ParamValue) Refusal
+step_at point dims j w = step_of (dimension_at dims j) (coordinate_of point (length (columns_of dims j))) w
+
+-- the first j dimensions, one after the other; a refused one refuses them all
+unfoldable pub walk_of : Option (List Float) → List DimensionInfo → ℕ → ℕ → Result (Draw (List ParamValue)) Refusal
 unfolding step_of
-walk_of given point dims zero w = record { values = []; drawn = 0; next = w }
-walk_of given point dims (suc j) w =
-    walk_more (walk_of given point dims j w) (step_of given (dimension_at dims j) (get_or point (length (columns_of dims j)) nan) (walk_of given point dims j w).next)
+walk_of point dims zero w = Ok (record { value = []; drawn = 0; next = w })
+walk_of point dims (suc j) w = and_then (walk_of point dims j w) (λ b. made (walk_more b) (step_at point dims j b.next))
 
 -- in an array of 20
-abbrev pub values_in : Walk → Values
-values_in b = record { values = filled empty_value 20 b.values; drawn = b.drawn; next = b.next }
+abbrev pub values_in : Draw (List ParamValue) → Draw (List ParamValue)
+values_in b = record { value = filled empty_value 20 b.value; drawn = b.drawn; next = b.next }
+
+abbrev pub walked_of : Option (List Float) → List DimensionInfo → ℕ → ℕ → Result (Draw (List ParamValue)) Refusal
+walked_of point dims j w = made values_in (walk_of point dims j w)

@@ -2,41 +2,33 @@
 ghost use Rattle.std.specs.Prelude.{◌≡◌, not, ◌&&◌, eqb, leb, ◌≤◌, ◌<◌};
 ghost use Rattle.history.proofs.Counts.{Counts};
 ghost use Rattle.settings.specs.Settings.{settings_ok};
-ghost use Rattle.proposal.specs.Proposal.{from_point, at_random, candidate_of, compute_candidate_of};
+ghost use Rattle.proposal.specs.Proposal.{from_point, candidate_of, compute_candidate_of};
 
-use crate::{Point, Proposal, points, walking};
+use crate::{points, walking};
 use dimensions::DimensionInfo;
+use distribution::ParamValue;
 use history_view::View;
 use refusal::Refusal;
+use rng_util::Draw;
 use settings::Settings;
 
 // The continuous dimensions decoded from a point, the choices at random.
-fn from_point(dims: [DimensionInfo; 20], k: usize, p: Point) -> Proposal
+fn from_point(
+    dims: [DimensionInfo; 20],
+    k: usize,
+    p: Draw<[f64; 20]>,
+) -> Result<Draw<[ParamValue; 20]>, Refusal>
     requires { (k ≤ 20) × (p.drawn ≤ 200000) }
     ensures { result ≡ from_point dims k p }
 {
-    let x = p.x;
-    let v = walking::walk(true, x, dims, k, p.next);
-    let values = v.values;
-    Proposal {
-        values,
+    let point = p.value;
+    let v = walking::walk(Some(point), dims, k, p.next)?;
+    let value = v.value;
+    Ok(Draw {
+        value,
         drawn: p.drawn + v.drawn,
         next: v.next,
-    }
-}
-
-// All dimensions at random.
-fn at_random(dims: [DimensionInfo; 20], k: usize, word: u64) -> Proposal
-    requires { k ≤ 20 }
-    ensures { result ≡ at_random dims k word }
-{
-    let v = walking::walk(false, [0.0; 20], dims, k, word);
-    let values = v.values;
-    Proposal {
-        values,
-        drawn: v.drawn,
-        next: v.next,
-    }
+    })
 }
 
 // Whether a model is asked for: the rows reach start-up and a dimension is continuous.
@@ -48,7 +40,13 @@ fn asks_model(reached: bool, d: usize) -> bool
 
 // By a view that is not refused.
 #[tactic(auto, using(crate::proofs::Numbers::point_few), unfolding(crate::specs::Proposal::candidate_of))]
-fn candidate(s: Settings, dims: [DimensionInfo; 20], k: usize, word: u64, v: View) -> Proposal
+fn candidate(
+    s: Settings,
+    dims: [DimensionInfo; 20],
+    k: usize,
+    word: u64,
+    v: View,
+) -> Result<Draw<[ParamValue; 20]>, Refusal>
     requires { (k ≤ 20) × (0 < word) × (s.n_candidates ≤ 10000) × Counts v.training }
     ensures { result ≡ candidate_of s dims k word v }
 {
@@ -57,7 +55,7 @@ fn candidate(s: Settings, dims: [DimensionInfo; 20], k: usize, word: u64, v: Vie
         let p = points::point_for(t, s.noise_variance, s.n_candidates, word);
         return from_point(dims, k, p);
     }
-    at_random(dims, k, word)
+    walking::walk(None, dims, k, word)
 }
 
 // Whether settings are in range and a word is not 0.
@@ -75,12 +73,12 @@ pub fn compute_candidate(
     k: usize,
     word: u64,
     h: &[u64],
-) -> Result<Proposal, Refusal>
+) -> Result<Draw<[ParamValue; 20]>, Refusal>
     ensures { result ≡ compute_candidate_of s dims k word h.now }
 {
     if !takes(s, word) {
         return Err(Refusal::OutOfDomain);
     }
     let view = history_view::view_of(s.slots as usize, s.n_startup_trials, dims, k, h)?;
-    Ok(candidate(s, dims, k, word, view))
+    candidate(s, dims, k, word, view)
 }

@@ -1,12 +1,12 @@
 // Dimension by dimension: a value decoded from a point, or drawn at random.
-ghost use Rattle.std.specs.Prelude.{◌≡◌, ◌&&◌, cond, ◌≤◌};
+ghost use Rattle.std.specs.Prelude.{◌≡◌, cond, ◌≤◌, ◌<◌};
 ghost use Rattle.distribution.specs.Shape.{continuous_of};
-ghost use Rattle.proposal.specs.Values.{decode_of, step_of, walk_of, values_in};
+ghost use Rattle.proposal.specs.Values.{decode_of, coordinate_of, step_of, walked_of};
 
-use crate::Values;
-use common::RandomDraw;
 use dimensions::DimensionInfo;
 use distribution::{Distribution, ParamValue};
+use refusal::Refusal;
+use rng_util::Draw;
 
 // 1 for a continuous dimension, else 0.
 fn column_width(d: Distribution) -> usize
@@ -15,15 +15,8 @@ fn column_width(d: Distribution) -> usize
     if dimensions::is_continuous(d) { 1 } else { 0 }
 }
 
-// Whether a dimension's value is decoded.
-fn is_decoded(given: bool, d: Distribution) -> bool
-    ensures { result ≡ (given && continuous_of d) }
-{
-    given && dimensions::is_continuous(d)
-}
-
 // The decoding of a coordinate.
-fn decoded(d: DimensionInfo, u: f64) -> ParamValue
+fn decoded(d: DimensionInfo, u: f64) -> Result<ParamValue, Refusal>
     ensures { result ≡ decode_of d u }
 {
     let distribution = d.distribution;
@@ -31,50 +24,54 @@ fn decoded(d: DimensionInfo, u: f64) -> ParamValue
     common::from_internal(x, distribution)
 }
 
-// A dimension's value, decoded where a point is given and it is continuous, else at random.
+// A dimension's value, decoded where it is continuous and has a coordinate, else at random.
 #[tactic(auto, unfolding(crate::specs::Values::step_of))]
-fn step(given: bool, d: DimensionInfo, u: f64, word: u64) -> RandomDraw
-    ensures { result ≡ step_of given d u word }
+fn step(d: DimensionInfo, u: Option<f64>, word: u64) -> Result<Draw<ParamValue>, Refusal>
+    ensures { result ≡ step_of d u word }
 {
-    let distribution = d.distribution;
-    if is_decoded(given, distribution) {
-        return RandomDraw {
-            value: decoded(d, u),
+    match u {
+        Some(u) if dimensions::is_continuous(d.distribution) => Ok(Draw {
+            value: decoded(d, u)?,
             drawn: 0,
             next: word,
-        };
+        }),
+        _ => common::sample_random(word, d.distribution),
     }
-    common::sample_random(word, distribution)
+}
+
+// A coordinate of a point, where there is one.
+fn coordinate(point: &Option<[f64; 20]>, c: usize) -> Option<f64>
+    requires { c < 20 }
+    ensures { result ≡ coordinate_of point.now c }
+{
+    match point {
+        Some(x) => Some(x[c]),
+        None => None,
+    }
 }
 
 // The values of k dimensions.
-// Kept: given beside the point, as walk_of has them; an Option adds a case to each clause.
 pub(crate) fn walk(
-    given: bool,
-    point: [f64; 20],
+    point: Option<[f64; 20]>,
     dims: [DimensionInfo; 20],
     k: usize,
     word: u64,
-) -> Values
+) -> Result<Draw<[ParamValue; 20]>, Refusal>
     requires { k ≤ 20 }
-    ensures { result ≡ values_in (walk_of given point dims k word) }
+    ensures { result ≡ walked_of point dims k word }
 {
-    let mut values = [ParamValue::Float(0.0); 20];
+    let mut value = [ParamValue::Float(0.0); 20];
     let mut drawn = 0;
     let mut next = word;
     let mut c = 0;
     for j in 0..k {
         let dim = dims[j];
         let distribution = dim.distribution;
-        let r = step(given, dim, point[c], next);
-        values[j] = r.value;
+        let r = step(dim, coordinate(&point, c), next)?;
+        value[j] = r.value;
         drawn += r.drawn;
         next = r.next;
         c += column_width(distribution);
     }
-    Values {
-        values,
-        drawn,
-        next,
-    }
+    Ok(Draw { value, drawn, next })
 }

@@ -6,4 +6,14 @@ pub mod phases;
 pub mod serving;
 pub mod states;
 
+ghost use Rattle.std.specs.Prelude.{◌≤◌};
+
 pub use calls::{close, sample};
+use sampler_state::Sampler;
+
+// A sampler that was tested.
+#[derive(Drop)]
+pub(crate) struct Tested<'a> {
+    pub(crate) sampler: &'a Sampler,
+    ghost few: { sampler.now.n_dims ≤ 20 },
+}

@@ -1,101 +1,71 @@
-// One trial served, without the sampler: a stored value, a draw past the last, or a new trial.
-ghost use Rattle.std.specs.Prelude.{◌≡◌, cond, ◌≤◌, ◌<◌, ltb, get_or};
-ghost use Rattle.dimensions.specs.Empty.{empty_stored};
+// One trial served: a stored value, a draw past the last, or a new trial.
+ghost use Rattle.std.specs.Prelude.{◌≡◌, cond, ltb, Ok};
 ghost use Rattle.sampler_laws.specs.Calls.{next_of, past_of, new_trial_of, serving_of};
 
-use dimensions::{DimensionInfo, Stored};
-use distribution::{Distribution, ParamValue};
+use crate::Tested;
+use distribution::Distribution;
+use refusal::Refusal;
+use rng_util::Draw;
 use sampler_laws::Serving;
 use sampler_state::Place;
-use settings::Settings;
 
-// Value j of a place.
-fn value_at(values: [Stored; 20], j: usize) -> ParamValue
-    requires { j < 20 }
-    ensures { result ≡ (get_or values j empty_stored).value }
-{
-    values[j].value
-}
+impl Tested<'_> {
+    // The next value of a place, or past the last a random one with the place as it was.
+    fn next(&self, p: Place, d: Distribution) -> Result<Serving, Refusal>
+        ensures { let s = self.now.sampler.now in result ≡ cond (ltb p.next_dim s.n_dims) (Ok (next_of s.word p)) (past_of s.word p d) }
+    {
+        let word = self.sampler.word;
+        let j = p.next_dim;
+        if j >= self.sampler.n_dims {
+            let draw = common::sample_random(word, d)?;
+            return Ok(Serving { draw, place: p });
+        }
+        let values = p.values;
+        Ok(Serving {
+            draw: Draw {
+                value: values[j],
+                drawn: 0,
+                next: word,
+            },
+            place: Place {
+                trial: p.trial,
+                values,
+                next_dim: j + 1,
+            },
+        })
+    }
 
-// Past the last value of a place: a random one, and the place as it was.
-fn past(word: u64, p: Place, d: Distribution) -> Serving
-    ensures { result ≡ past_of word p d }
-{
-    let r = common::sample_random(word, d);
-    Serving {
-        number: 0,
-        value: r.value,
-        drawn: r.drawn,
-        place: p,
-        next: r.next,
+    // A new trial: its values in a place, and the first of them.
+    fn new_trial(&self, trial: u64, h: &[u64]) -> Result<Serving, Refusal>
+        ensures { let s = self.now.sampler.now in result ≡ new_trial_of s.settings s.dimensions s.n_dims s.word trial h.now }
+    {
+        let s = self.sampler;
+        let made = proposal::compute_candidate(s.settings, s.dimensions, s.n_dims, s.word, h)?;
+        let values = made.value;
+        Ok(Serving {
+            draw: made.with(values[0]),
+            place: Place {
+                trial,
+                values,
+                next_dim: 1,
+            },
+        })
     }
-}
 
-// The next value of a place, or past the last a random one.
-fn next(k: usize, word: u64, mut p: Place, d: Distribution) -> Serving
-    requires { k ≤ 20 }
-    ensures { result ≡ cond (ltb p.next_dim k) (next_of word p) (past_of word p d) }
-{
-    let j = p.next_dim;
-    if j >= k {
-        return past(word, p, d);
+    // The trial that has this place, or without one a new trial.
+    #[tactic(auto, unfolding(sampler_laws::specs::Calls::serving_of))]
+    pub(crate) fn serving(
+        &self,
+        place: Option<Place>,
+        d: Distribution,
+        trial: u64,
+        h: &[u64],
+    ) -> Result<Serving, Refusal>
+        ensures { let s = self.now.sampler.now in result ≡ serving_of s.settings s.dimensions s.n_dims s.word place d trial h.now }
+    {
+        match place {
+            Some(p) => self.next(p, d),
+            None => self.new_trial(trial, h),
+        }
     }
-    let values = p.values;
-    let value = value_at(values, j);
-    p.next_dim = j + 1;
-    Serving {
-        number: 0,
-        value,
-        drawn: 0,
-        place: p,
-        next: word,
-    }
-}
-
-// A new trial: its values in a place, and the first of them.
-fn new_trial(
-    settings: Settings,
-    dims: [DimensionInfo; 20],
-    k: usize,
-    word: u64,
-    trial: u64,
-    h: &[u64],
-) -> Serving
-    ensures { result ≡ new_trial_of settings dims k word trial h.now }
-{
-    let c = proposal::compute_candidate(settings, dims, k, word, h);
-    let values = c.values;
-    let value = value_at(values, 0);
-    Serving {
-        number: c.number,
-        value,
-        drawn: c.drawn,
-        place: Place {
-            taken: true,
-            trial,
-            values,
-            next_dim: 1,
-        },
-        next: c.next,
-    }
-}
-
-// The trial that has this place, or with a free one a new trial.
-pub(crate) fn serving(
-    settings: Settings,
-    dims: [DimensionInfo; 20],
-    k: usize,
-    word: u64,
-    p: Place,
-    d: Distribution,
-    trial: u64,
-    h: &[u64],
-) -> Serving
-    requires { k ≤ 20 }
-    ensures { result ≡ serving_of settings dims k word p d trial h.now }
-{
-    if p.taken {
-        return next(k, word, p, d);
-    }
-    new_trial(settings, dims, k, word, trial, h)
 }

@@ -1,21 +1,29 @@
 // A sampler with a field or two changed, and the answers made of it.
 ghost use Rattle.std.specs.Prelude.{◌≡◌, ◌<◌};
-ghost use Rattle.sampler_laws.specs.Calls.{refused_of, with_word, with_place, activated, with_dimension, drawn_of, put_of};
+ghost use Rattle.sampler_laws.specs.Calls.{answered_of, with_word, with_place, activated, with_dimension, drawn_of, written_of};
 
-use common::RandomDraw;
 use distribution::{Distribution, ParamValue};
-use sampler_laws::{Sampled, Serving};
+use refusal::Refusal;
+use rng_util::Draw;
+use sampler_laws::{Accepted, Answer, Sampled, Serving};
 use sampler_state::{Place, Sampler};
 
-// A refusal: the sampler as it was, and no word drawn.
-pub(crate) fn refused(s: Sampler, number: u64) -> Sampled
-    ensures { result ≡ refused_of s number }
+// What a call on a sampler answers, and the sampler after it: as it was where the call is refused.
+pub(crate) fn answered(s: Sampler, outcome: Result<Accepted, Refusal>) -> Sampled
+    ensures { result ≡ answered_of s outcome }
 {
-    Sampled {
-        number,
-        value: ParamValue::Refused(number),
-        drawn: 0,
-        sampler: s,
+    match outcome {
+        Ok(accepted) => {
+            let sampler = accepted.sampler;
+            Sampled {
+                answer: Ok(accepted.answer),
+                sampler,
+            }
+        }
+        Err(refusal) => Sampled {
+            answer: Err(refusal),
+            sampler: s,
+        },
     }
 }
 
@@ -26,7 +34,7 @@ pub(crate) fn with_word(mut s: Sampler, word: u64) -> Sampler
     s
 }
 
-pub(crate) fn with_place(mut s: Sampler, i: usize, p: Place) -> Sampler
+pub(crate) fn with_place(mut s: Sampler, i: usize, p: Option<Place>) -> Sampler
     requires { i < 32 }
     ensures { result ≡ with_place s i p }
 {
@@ -54,32 +62,23 @@ pub(crate) fn with_dimension(mut s: Sampler, trial: u64, d: Distribution) -> Sam
     s
 }
 
-// A random value drawn at the sampler's word.
-pub(crate) fn with_draw(s: Sampler, r: RandomDraw) -> Sampled
-    ensures { result ≡ drawn_of s r }
+// A value, and the sampler with the generator's word after it.
+pub(crate) fn with_draw(s: Sampler, draw: Draw<ParamValue>) -> Accepted
+    ensures { result ≡ drawn_of s draw }
 {
-    Sampled {
-        number: 0,
-        value: r.value,
-        drawn: r.drawn,
-        sampler: with_word(s, r.next),
+    Accepted {
+        answer: Answer {
+            value: Some(draw.value),
+            drawn: draw.drawn,
+        },
+        sampler: with_word(s, draw.next),
     }
 }
 
-// A serving put back, its place as place i and its word; a refused one changes nothing.
-pub(crate) fn put(mut s: Sampler, i: usize, r: Serving) -> Sampled
+// A serving written back: its place as place i, and its word.
+pub(crate) fn written(s: Sampler, i: usize, serving: Serving) -> Accepted
     requires { i < 32 }
-    ensures { result ≡ put_of s i r }
+    ensures { result ≡ written_of s i serving }
 {
-    if r.number != 0 {
-        return refused(s, r.number);
-    }
-    s.places[i] = r.place;
-    s.word = r.next;
-    Sampled {
-        number: 0,
-        value: r.value,
-        drawn: r.drawn,
-        sampler: s,
-    }
+    with_draw(with_place(s, i, Some(serving.place)), serving.draw)
 }

@@ -7,18 +7,20 @@ use mathlib.Core.List.{[], ◌∷◌}
 use lib.IntN.{pos}
 use lib.Ieee.{binary64, of_bits, to_bits, of_int, le, lt, eq, neg}
 use Rattle.arith.specs.Lists.{every, filled, grown, place_of, places_of}
-use Rattle.rng_util.specs.Draws.{unit_of, whole_draw_of, whole_of, range_ok}
+use Rattle.rng_util.specs.Draws.{unit_of, word_draw_of, whole_draw_of, whole_of, range_ok}
 use Rattle.rng_util.specs.Generator.{stream_of, next_of as step}
 use Rattle.distribution.specs.declared.Distribution.{Distribution}
 use Rattle.distribution.specs.declared.ParamValue.{ParamValue}
 use Rattle.distribution.specs.Shape.{shape_of, int_shape, int_step, categorical_shape}
 use Rattle.distribution_words.specs.Words.{read_of, checked_of, int_read, categorical_read}
 use Rattle.encoding.specs.Bounds.{bounds_of, ends_of}
-use Rattle.common.specs.Random.{sample_random_of, random_of, int_random, linear_int_random, categorical_random, from_whole}
-use Rattle.dimensions.specs.Empty.{empty_stored}
+use Rattle.common.specs.Random.{sample_random_of, random_of, int_random, linear_int_random, categorical_random}
+use Rattle.dimensions.specs.Empty.{empty_value}
 use Rattle.dimensions.specs.Dimensions.{dimension_ok, dimensions_ok, columns_of}
-use Rattle.std.specs.Prelude.{Err}
-use Rattle.refusal.specs.declared.Refusal.TheVariants.{NoRows}
+use Rattle.std.specs.Prelude.{Option, Some, None, Result, Ok, Err}
+use Rattle.refusal.specs.declared.Refusal.{Refusal}
+use Rattle.refusal.specs.declared.Refusal.TheVariants.{Malformed, BrokenRows, UnknownTrial, OutOfDomain, NoRows}
+use Rattle.arith.specs.Outcome.{made}
 use Rattle.gp_model.specs.Fit.{fit_of, fit_domain}
 use Rattle.gp_model.specs.Statistics.{all_within}
 use Rattle.param_mapping.specs.Mapping.{mapped_of, asked_of}
@@ -27,16 +29,17 @@ use Rattle.history_rows.specs.Tests.{recent_tests, check_of}
 use Rattle.history.specs.Training.{kept_of, x_of, y_of, training_of, recent_training}
 use Rattle.history_view.specs.View.{view_of}
 use Rattle.settings.specs.Settings.{settings_ok}
-use Rattle.proposal.specs.Proposal.{candidate_of, candidate_number, compute_candidate_of}
+use Rattle.proposal.specs.Proposal.{candidate_of, compute_candidate_of}
 use Rattle.proposal.specs.Values.{step_of, walk_of}
+use Rattle.sampler_laws.specs.declared.Answer.{Answer}
 use Rattle.sampler_laws.specs.declared.Sampled.{Sampled}
 use Rattle.sampler_laws.specs.declared.Serving.{Serving}
 use Rattle.sampler_state.specs.declared.Place.{Place}
 use Rattle.sampler_state.specs.declared.Sampler.{Sampler}
-use Rattle.sampler_laws.specs.Calls.{with_word, with_place, activated, discover_of, serving_of, put_of, active_of, served_of, sample_of, close_of}
+use Rattle.sampler_laws.specs.Calls.{refused_of, answered_of, with_word, with_place, activated, written_of, discover_of, serving_of, active_of, served_of, sample_of, close_of}
 use Rattle.sampler_laws.specs.Laws.{words_taken}
 use Rattle.sampler_laws.specs.NewTrials.{new_trial, served_history, fit_made, fit_answer, has_model, continuous, choices, point_drawn}
-use Rattle.sampler_laws.specs.Runs.{Asked, Call, asks, closes, answers_of, end_of}
+use Rattle.sampler_laws.specs.Runs.{Asked, Call, asks, closes, drawn_in, answers_of, end_of}
 use Rattle.sampler_state.specs.State.{empty_place, fresh_of, place_at, trial_place, free_place, spot_for, stored_at, taken_count, place_ok, trials_once, sampler_ok}
 
 -- start-up 10, no candidates, no noise, seed 1, one slot
@@ -70,28 +73,28 @@ fifth = int fourth.sampler 8
 abbrev closed : Sampled
 closed = close_of fifth.sampler 8
 
--- number, value and words drawn
-abbrev said : Sampled → ℕ × ParamValue × ℕ
-said r = (r.number, r.value, r.drawn)
+-- an accepted answer with a value, and a refused call
+abbrev told : ParamValue → ℕ → Result Answer Refusal
+told v drawn = Ok (record { value = Some v; drawn = drawn })
 
 abbrev Run : Type 0
 Run =
-    (said first ≡ (0, ParamValue.Categorical 1, 1))
-    × (said second ≡ (0, ParamValue.Int (pos 5), 1))
-    × (third.drawn ≡ 2)
-    × (fourth.drawn ≡ 0)
-    × (fifth.drawn ≡ 1)
+    (first.answer ≡ told (ParamValue.Categorical 1) 1)
+    × (second.answer ≡ told (ParamValue.Int (pos 5)) 1)
+    × (drawn_in third ≡ 2)
+    × (drawn_in fourth ≡ 0)
+    × (drawn_in fifth ≡ 1)
     × (taken_count fifth.sampler.places ≡ 1)
-    × (said closed ≡ (0, ParamValue.Refused 0, 0))
+    × (closed.answer ≡ Ok (record { value = None; drawn = 0 }))
     × (taken_count closed.sampler.places ≡ 0)
     -- the discovery trial has no place; a malformed distribution; words that are no whole row; a zero generator word
-    × (said (close_of second.sampler 7) ≡ (10, ParamValue.Refused 10, 0))
-    × (said (sample_of fresh 0 0 0 0 0 0 7 []) ≡ (2, ParamValue.Refused 2, 0))
-    × (said (sample_of fresh 3 5 0 0 0 0 7 (0 ∷ [])) ≡ (3, ParamValue.Refused 3, 0))
-    × (said (choice (with_word fresh 0) 7) ≡ (11, ParamValue.Refused 11, 0))
+    × ((close_of second.sampler 7).answer ≡ Err UnknownTrial)
+    × ((sample_of fresh 0 0 0 0 0 0 7 []).answer ≡ Err Malformed)
+    × ((sample_of fresh 3 5 0 0 0 0 7 (0 ∷ [])).answer ≡ Err BrokenRows)
+    × ((choice (with_word fresh 0) 7).answer ≡ Err OutOfDomain)
 
 run : Run
-unfolding sample_of close_of discover_of serving_of active_of served_of trial_place free_place spot_for taken_count place_ok trials_once sampler_ok settings_ok candidate_of candidate_number compute_candidate_of step_of walk_of view_of training_of recent_training asked_of dimension_ok dimensions_ok columns_of whole_rows row_count recent_count recent_of recent_tests check_of bounds_of ends_of sample_random_of random_of int_random linear_int_random categorical_random from_whole shape_of int_shape int_step categorical_shape read_of checked_of int_read categorical_read whole_draw_of whole_of range_ok step every grown place_of places_of of_bits to_bits of_int le lt eq neg
+unfolding sample_of close_of discover_of serving_of active_of served_of trial_place free_place spot_for taken_count place_ok trials_once sampler_ok settings_ok candidate_of compute_candidate_of step_of walk_of view_of training_of recent_training asked_of dimension_ok dimensions_ok columns_of whole_rows row_count recent_count recent_of recent_tests check_of bounds_of ends_of sample_random_of random_of int_random linear_int_random categorical_random shape_of int_shape int_step categorical_shape read_of checked_of int_read categorical_read word_draw_of whole_draw_of whole_of range_ok step every grown place_of places_of of_bits to_bits of_int le lt eq neg
 run = (refl, refl, refl, refl, refl, refl, refl, refl, refl, refl, refl, refl)
 
 -- ---- the same run as a list of calls, and what the laws say of each
@@ -108,7 +111,7 @@ count trial = asks (asked 2 9) trial []
 
 abbrev Laws : Type 0
 Laws =
-    (answers_of fresh (choose 7 ∷ count 7 ∷ []) ≡ (0, ParamValue.Categorical 1, 1) ∷ (0, ParamValue.Int (pos 5), 1) ∷ [])
+    (answers_of fresh (choose 7 ∷ count 7 ∷ []) ≡ told (ParamValue.Categorical 1) 1 ∷ told (ParamValue.Int (pos 5)) 1 ∷ [])
     × (end_of fresh (choose 7 ∷ count 7 ∷ []) ≡ second.sampler)
     -- a call of the discovery trial is no new trial's, nor one of a trial with a place, nor a close; the one that ends discovery is
     × (new_trial fresh (choose 7) ≡ false)
@@ -130,51 +133,55 @@ Laws =
     × (fit_made third.sampler [] ≡ false)
 
 laws : Laws
-unfolding new_trial has_model words_taken answers_of end_of sample_of close_of discover_of serving_of active_of served_of trial_place free_place spot_for taken_count place_ok trials_once sampler_ok settings_ok candidate_of candidate_number compute_candidate_of step_of walk_of view_of training_of recent_training asked_of dimension_ok dimensions_ok columns_of whole_rows row_count recent_count recent_of recent_tests check_of bounds_of ends_of sample_random_of random_of int_random linear_int_random categorical_random from_whole shape_of int_shape int_step categorical_shape read_of checked_of int_read categorical_read whole_draw_of whole_of range_ok step every grown place_of places_of of_bits to_bits of_int le lt eq neg
+unfolding new_trial has_model words_taken answers_of end_of sample_of close_of discover_of serving_of active_of served_of trial_place free_place spot_for taken_count place_ok trials_once sampler_ok settings_ok candidate_of compute_candidate_of step_of walk_of view_of training_of recent_training asked_of dimension_ok dimensions_ok columns_of whole_rows row_count recent_count recent_of recent_tests check_of bounds_of ends_of sample_random_of random_of int_random linear_int_random categorical_random shape_of int_shape int_step categorical_shape read_of checked_of int_read categorical_read word_draw_of whole_draw_of whole_of range_ok step every grown place_of places_of of_bits to_bits of_int le lt eq neg
 laws = (refl, refl, refl, refl, refl, refl, refl, refl, refl, refl, refl, refl, refl, refl, refl, refl)
 
 -- ---- one trial served, and put back
 
 -- trial 8 of the run, with the values 2 and 7 and its next dimension given
 abbrev at : ℕ → Place
-at next = record { taken = true; trial = 8; values = filled empty_stored 20 ((record { value = ParamValue.Categorical 2 }) ∷ (record { value = ParamValue.Int (pos 7) }) ∷ []); next_dim = next }
+at next = record { trial = 8; values = filled empty_value 20 (ParamValue.Categorical 2 ∷ ParamValue.Int (pos 7) ∷ []); next_dim = next }
 
 -- the int from 0 to 9 asked, with the dimensions of the run and the generator's word 1
-abbrev serve : Place → Serving
+abbrev serve : Option Place → Result Serving Refusal
 serve p = serving_of fresh.settings second.sampler.dimensions 2 1 p (Distribution.Int (record { low = pos 0; high = pos 9; log_scale = false; stepped = false; step = pos 0 })) 8 []
 
 -- a serving put back as place 3 of a sampler that has a place 0
 abbrev before : Sampler
-before = with_place fresh 0 (at 1)
+before = with_place fresh 0 (Some (at 1))
 
-abbrev put : Serving → Sampled
-put r = put_of before 3 r
+abbrev put : Result Serving Refusal → Sampled
+put r = answered_of before (made (written_of before 3) r)
 
-abbrev refusal : Serving
-refusal = record { number = 11; value = ParamValue.Int (pos 7); drawn = 5; place = at 2; next = 9 }
+-- a value served, with the words drawn and the generator's next word, and the place left
+abbrev serving : ParamValue → ℕ → ℕ → Place → Result Serving Refusal
+serving v drawn next p = Ok (record { draw = record { value = v; drawn = drawn; next = next }; place = p })
+
+-- of a serving that is not refused
+abbrev left : Result Serving Refusal → Place
+left (Ok v) = v.place
+left (Err c) = at 0
 
 abbrev Servings : Type 0
 Servings =
     -- the value at the next dimension, not the first, and no word; the place moved on by one
-    (serve (at 1) ≡ record { number = 0; value = ParamValue.Int (pos 7); drawn = 0; place = at 2; next = 1 })
+    (serve (Some (at 1)) ≡ serving (ParamValue.Int (pos 7)) 0 1 (at 2))
     -- past the last a draw, and the place as it was
-    × (serve (at 2) ≡ record { number = 0; value = ParamValue.Int (pos 1); drawn = 1; place = at 2; next = 0x40822041 })
-    -- a free place: a new trial, whatever else stands there; both values drawn and stored, the first answered
-    × (serve (record { taken = false; trial = 8; values = (at 1).values; next_dim = 1 }) ≡ serve empty_place)
-    × ((serve empty_place).value ≡ ParamValue.Categorical 1)
-    × (stored_at (serve empty_place).place 1 ≡ ParamValue.Int (pos 5))
-    × ((serve empty_place).place.next_dim ≡ 1)
-    × ((serve empty_place).next ≡ 0x100041060c011441)
+    × (serve (Some (at 2)) ≡ serving (ParamValue.Int (pos 1)) 1 0x40822041 (at 2))
+    -- a free place: a new trial; both values drawn and stored, the first answered
+    × (serve empty_place ≡ serving (ParamValue.Categorical 1) 2 0x100041060c011441 (left (serve empty_place)))
+    × (stored_at (left (serve empty_place)) 1 ≡ ParamValue.Int (pos 5))
+    × ((left (serve empty_place)).next_dim ≡ 1)
     -- put back: its place, no other, and its word; a refused one leaves all as it was
-    × (place_at (put (serve (at 1))).sampler.places 3 ≡ at 2)
-    × (place_at (put (serve (at 2))).sampler.places 0 ≡ at 1)
-    × ((put (serve (at 2))).sampler.word ≡ 0x40822041)
-    × (said (put (serve (at 2))) ≡ (0, ParamValue.Int (pos 1), 1))
-    × (put refusal ≡ record { number = 11; value = ParamValue.Refused 11; drawn = 0; sampler = before })
+    × (place_at (put (serve (Some (at 1)))).sampler.places 3 ≡ Some (at 2))
+    × (place_at (put (serve (Some (at 2)))).sampler.places 0 ≡ Some (at 1))
+    × ((put (serve (Some (at 2)))).sampler.word ≡ 0x40822041)
+    × ((put (serve (Some (at 2)))).answer ≡ told (ParamValue.Int (pos 1)) 1)
+    × (put (Err OutOfDomain) ≡ refused_of before OutOfDomain)
 
 servings : Servings
-unfolding sample_of close_of discover_of serving_of active_of served_of trial_place free_place spot_for taken_count place_ok trials_once sampler_ok settings_ok candidate_of candidate_number compute_candidate_of step_of walk_of view_of training_of recent_training asked_of dimension_ok dimensions_ok columns_of whole_rows row_count recent_count recent_of recent_tests check_of bounds_of ends_of sample_random_of random_of int_random linear_int_random categorical_random from_whole shape_of int_shape int_step categorical_shape read_of checked_of int_read categorical_read whole_draw_of whole_of range_ok step every grown place_of places_of of_bits to_bits of_int le lt eq neg
-servings = (refl, refl, refl, refl, refl, refl, refl, refl, refl, refl, refl, refl)
+unfolding sample_of close_of discover_of serving_of active_of served_of trial_place free_place spot_for taken_count place_ok trials_once sampler_ok settings_ok candidate_of compute_candidate_of step_of walk_of view_of training_of recent_training asked_of dimension_ok dimensions_ok columns_of whole_rows row_count recent_count recent_of recent_tests check_of bounds_of ends_of sample_random_of random_of int_random linear_int_random categorical_random shape_of int_shape int_step categorical_shape read_of checked_of int_read categorical_read word_draw_of whole_draw_of whole_of range_ok step every grown place_of places_of of_bits to_bits of_int le lt eq neg
+servings = (refl, refl, refl, refl, refl, refl, refl, refl, refl, refl)
 
 -- two candidates and no start-up: after discovery of the int a new trial without a row asks for a fit, which has none, and its points would be the next two words
 abbrev eager : Sampler
@@ -189,5 +196,5 @@ Points =
     × (point_drawn (with_word eager 1) 1 ≡ unit_of 0x100041060c011441 ∷ [])
 
 points : Points
-unfolding has_model point_drawn stream_of fit_of fit_domain all_within sample_of discover_of served_of sampler_ok settings_ok view_of training_of recent_training asked_of mapped_of kept_of x_of y_of dimension_ok dimensions_ok columns_of whole_rows row_count recent_count recent_of recent_tests check_of bounds_of ends_of sample_random_of random_of int_random linear_int_random from_whole shape_of int_shape int_step read_of checked_of int_read whole_draw_of whole_of range_ok step every grown places_of place_ok trials_once of_bits to_bits of_int le lt eq neg
+unfolding has_model point_drawn stream_of fit_of fit_domain all_within sample_of discover_of served_of sampler_ok settings_ok view_of training_of recent_training asked_of mapped_of kept_of x_of y_of dimension_ok dimensions_ok columns_of whole_rows row_count recent_count recent_of recent_tests check_of bounds_of ends_of sample_random_of random_of int_random linear_int_random shape_of int_shape int_step read_of checked_of int_read word_draw_of whole_draw_of whole_of range_ok step every grown places_of place_ok trials_once of_bits to_bits of_int le lt eq neg
 points = (refl, refl, refl, refl, refl)

@@ -1,5 +1,5 @@
 -- A well-formed sampler with its word, a place, its phase or its dimensions changed is well-formed. Assumes nothing.
-use Rattle.std.specs.Prelude.{Ok, Some, None}
+use Rattle.std.specs.Prelude.{Option, Ok, Some, None}
 use Prim.Native.Nat.{ℕ, ◌+◌, ◌<◌}
 use native.Mathlib.Omega.{arith}
 use mathlib.Core.Path.{◌≡◌, refl, sym, ap, ◌∙◌, subst}
@@ -14,7 +14,7 @@ use lib.Ieee.Bits.{of_bits-fits}
 use lib.Ieee.Fits.{and_i, and_l, and_r}
 use Rattle.arith.specs.Lists.{every}
 use Rattle.arith.proofs.Lists.{each-every}
-use Rattle.arith.proofs.Tests.{untaken, equal_or_not, or_left, or_right, or_split}
+use Rattle.arith.proofs.Tests.{untaken, equal_or_not, or_left}
 use Rattle.rng_util.proofs.Nonzero.{Nonzero, nonzero-test}
 use Rattle.distribution.specs.declared.Distribution.{Distribution}
 use Rattle.distribution_words.specs.RoundTrip.{Held}
@@ -29,35 +29,29 @@ use Rattle.sampler_state.specs.declared.Place.{Place}
 use Rattle.sampler_state.specs.declared.Sampler.{Sampler}
 use Rattle.sampler_laws.specs.Calls.{with_word, with_place, activated, with_dimension}
 use Rattle.sampler_laws.specs.Laws.{Typed}
-use Rattle.sampler_state.specs.State.{place_at, taken, progress_ok, place_ok}
+use Rattle.sampler_state.specs.State.{place_at, progress_ok, place_ok}
 use Rattle.sampler_laws.proofs.Parts.{Checked, Well, ready}
 use Rattle.sampler_state.proofs.Held.{Once, each_set}
 
 -- ---- one place
 
-module _ (active : Bool) (dims : List DimensionInfo) (k : ℕ) (p : Place) where
-  pub free-ok : T (not (taken p)) → T (place_ok active dims k p)
+module _ (active : Bool) (dims : List DimensionInfo) (k : ℕ) where
+  pub free-ok : (p : Option Place) → p ≡ None → T (place_ok active dims k p)
   unfolding place_ok
-  free-ok t = or_left (not (taken p)) (active && progress_ok dims k p) t
+  free-ok p e = rw e tt
+
+  pub taken-ok : (p : Place) → T active → T (progress_ok dims k p) → T (place_ok active dims k (Some p))
+  unfolding place_ok
+  taken-ok p a v = and_i active (progress_ok dims k p) a v
+
+  pub ok-taken : (p : Place) → T (place_ok active dims k (Some p)) → T active × T (progress_ok dims k p)
+  unfolding place_ok
+  ok-taken p t = (and_l active (progress_ok dims k p) t, and_r active (progress_ok dims k p) t)
 
   -- without an active sampler a place is free
-  free : active ≡ false → T (place_ok active dims k p) → T (not (taken p))
-  unfolding place_ok
-  free e t = elim (or_split (not (taken p)) (active && progress_ok dims k p) t) [
-    | inl h ↦ h
-    | inr h ↦ absurd (T_not active (untaken e) (and_l active (progress_ok dims k p) h))
-  ]
-
-  pub taken-ok : T active → T (progress_ok dims k p) → T (place_ok active dims k p)
-  unfolding place_ok
-  taken-ok a v = or_right (not (taken p)) (active && progress_ok dims k p) (and_i active (progress_ok dims k p) a v)
-
-  pub ok-taken : T (place_ok active dims k p) → T (taken p) → T active × T (progress_ok dims k p)
-  unfolding place_ok
-  ok-taken t h = elim (or_split (not (taken p)) (active && progress_ok dims k p) t) [
-    | inl f ↦ absurd (T_not (taken p) f h)
-    | inr g ↦ (and_l active (progress_ok dims k p) g, and_r active (progress_ok dims k p) g)
-  ]
+  free : (p : Option Place) → active ≡ false → T (place_ok active dims k p) → p ≡ None
+  free (Some q) e t = absurd (T_not active (untaken e) (ok-taken q t).0)
+  free None e t = refl
 
 -- ---- the dimension of a distribution
 
@@ -95,7 +89,7 @@ module _ (s : Sampler) (g : Well s) where
     ok = record { settings = o.settings; word = untaken (nonzero-test w h); dimensions = o.dimensions; some = o.some; places = o.places; once = o.once };
   }
 
-  pub with-place : (i : ℕ) (p : Place) → i < 32 → T (place_ok s.active s.dimensions s.n_dims p) → Once (set s.places i p) → Well (with_place s i p)
+  pub with-place : (i : ℕ) (p : Option Place) → i < 32 → T (place_ok s.active s.dimensions s.n_dims p) → Once (set s.places i p) → Well (with_place s i p)
   with-place i p l k once = record {
     typed = record { word = t.word; dimensions = t.dimensions; places = length-set s.places i p ∙ t.places; held = t.held; ends = t.ends };
     ok = record {
@@ -108,7 +102,7 @@ module _ (s : Sampler) (g : Well s) where
     };
   }
 
-  all-free : s.active ≡ false → (i : ℕ) → i < 32 → T (not (taken (place_at s.places i)))
+  all-free : s.active ≡ false → (i : ℕ) → i < 32 → place_at s.places i ≡ None
   all-free a i l = free s.active s.dimensions s.n_dims (place_at s.places i) a (o.places i l)
 
   -- discovery ended

@@ -3,6 +3,7 @@ use Prim.Native.Nat.{ℕ}
 use mathlib.Core.Path.{◌≡◌, refl, ◌∙◌}
 use lib.ListN.{length, length-set}
 use Rattle.distribution.specs.declared.Distribution.{Distribution}
+use Rattle.std.specs.Prelude.{Option}
 use Rattle.sampler_state.specs.declared.Place.{Place}
 use Rattle.sampler_state.specs.declared.Sampler.{Sampler}
 use Rattle.sampler_laws.specs.Calls.{with_word, with_place, with_dimension, activated}
@@ -12,14 +13,14 @@ use Rattle.sampler_laws.proofs.Ways.{by-sample, by-close}
 -- a property that no change of a field touches
 pub record Lasting (P : Sampler → Type 0) : Type 0 where
   pub word : (s : Sampler) (w : ℕ) → P s → P (with_word s w)
-  pub place : (s : Sampler) (i : ℕ) (p : Place) → P s → P (with_place s i p)
+  pub place : (s : Sampler) (i : ℕ) (p : Option Place) → P s → P (with_place s i p)
   pub ended : (s : Sampler) → P s → P (activated s)
   pub dimension : (s : Sampler) (trial : ℕ) (d : Distribution) → P s → P (with_dimension s trial d)
 
 pub call_kept : (P : Sampler → Type 0) → Lasting P → (s : Sampler) (c : Call) → P s → P (call_of s c).sampler
 call_kept P k s (asks d trial h) p =
-    by-sample s d trial h (λ r. P r.sampler) (λ _ _. p) (λ r _ _ _. k.word (with_dimension s trial r) _ (k.dimension s trial r p))
-    (λ r _ _ _ _. k.word (with_place (activated s) _ _) _ (k.place (activated s) _ _ (k.ended s p)))
+    by-sample s d trial h (λ r. P r.sampler) (λ _ _. p) (λ r _ _ _ _ _. k.word (with_dimension s trial r) _ (k.dimension s trial r p))
+    (λ r _ _ _ _ _. k.word (with_place (activated s) _ _) _ (k.place (activated s) _ _ (k.ended s p)))
 call_kept P k s (closes trial) p = by-close s trial (λ r. P r.sampler) (λ _. p) p (λ _. k.place s _ _ p)
 
 -- the settings, and how many places there are

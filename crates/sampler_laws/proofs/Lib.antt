@@ -6,6 +6,7 @@ pub mod EqualRuns
 pub mod Kept
 pub mod Nothing
 pub mod OneTrial
+mod Others
 pub mod Parts
 pub mod PlaceCounts
 pub mod SameAnswers

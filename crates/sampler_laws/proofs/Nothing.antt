@@ -2,7 +2,7 @@
 use Prim.Native.Nat.{ℕ, ◌*◌, ◌/◌, ◌%◌, ◌<◌}
 use native.Mathlib.Nat.{zero-sub, zero-mod, zero-div}
 use native.Mathlib.Omega.{arith}
-use mathlib.Core.Path.{◌≡◌, refl, sym, ap, ◌∙◌, subst}
+use mathlib.Core.Path.{◌≡◌, refl, ap, ◌∙◌}
 use mathlib.Core.Bool.{Bool, true, false, cond}
 use mathlib.Core.List.{List, [], ◌∷◌}
 use lib.Dec.{T, leb, leb→le}
@@ -16,31 +16,30 @@ use Rattle.distribution.specs.declared.Distribution.{Distribution}
 use Rattle.distribution.specs.declared.ParamValue.{ParamValue}
 use Rattle.distribution.specs.Taken.{taken_of}
 use Rattle.distribution.proofs.Facts.{parts}
-use Rattle.common.specs.Random.{sample_random_of}
 use Rattle.history_view.specs.declared.View.{View}
 use Rattle.dimensions.specs.declared.DimensionInfo.{DimensionInfo}
 use Rattle.dimensions.specs.Dimensions.{dimension_at, dimensions_ok}
 use Rattle.refusal.specs.declared.Refusal.{Refusal}
 use Rattle.refusal.specs.declared.Refusal.TheVariants.{BrokenRows}
 use Rattle.refusal.specs.Numbers.{cause_number, number_of}
-use Rattle.std.specs.Prelude.{Ok, Err}
+use Rattle.std.specs.Prelude.{Result, Ok, Err}
+use Rattle.rng_util.specs.declared.Draw.{Draw}
 use Rattle.param_mapping.specs.Mapping.{asked_of}
 use Rattle.history_rows.specs.Rows.{width_of, whole_rows, row_count, recent_of, older_of}
 use Rattle.history_rows.specs.Tests.{first_of, recent_tests, check_of}
 use Rattle.history.specs.Training.{training_of}
 use Rattle.history_view.specs.View.{seen_of}
-use Rattle.history_view.proofs.Views.{view-number, seen-training}
+use Rattle.history_view.proofs.Views.{seen-training}
 use Rattle.history_rows.proofs.Passed.{check-recent}
 use Rattle.history_view.proofs.Usable.{usable}
 use Rattle.settings.specs.declared.Settings.{Settings}
 use Rattle.settings.specs.Settings.{settings_ok}
-use Rattle.proposal.specs.declared.Proposal.{Proposal}
 use Rattle.proposal.specs.Points.{fit_for}
 use Rattle.proposal.specs.Proposal.{compute_candidate_of}
-use Rattle.dimensions.specs.Empty.{empty_stored}
-use Rattle.proposal.proofs.Numbers.{by-history, accepted-is}
+use Rattle.dimensions.specs.Empty.{empty_value}
+use Rattle.proposal.proofs.Numbers.{accepted-is}
 use Rattle.proposal.proofs.WordCount.{view-columns}
-use Rattle.proposal.proofs.Ranges.{InRange, fit_number, fit-number, random-ranged, candidate-number, candidate-ranged}
+use Rattle.proposal.proofs.Ranges.{InRange, fit_number, fit-number, random-ranged, candidate-ranged}
 use Rattle.sampler_state.specs.declared.Sampler.{Sampler}
 use Rattle.sampler_laws.specs.Laws.{NothingRefused}
 use Rattle.sampler_laws.specs.NewTrials.{served_history, fit_made, fit_answer}
@@ -54,15 +53,12 @@ unfolding taken_of
 stored_ok_lem (Distribution.Float d) (ParamValue.Float v) r = r.taken
 stored_ok_lem (Distribution.Float d) (ParamValue.Int v) r = r.taken
 stored_ok_lem (Distribution.Float d) (ParamValue.Categorical v) r = r.taken
-stored_ok_lem (Distribution.Float d) (ParamValue.Refused v) r = r.taken
 stored_ok_lem (Distribution.Int d) (ParamValue.Float v) r = r.taken
 stored_ok_lem (Distribution.Int d) (ParamValue.Int v) r = and_i (le_z d.low v) (le_z v d.high) r.range.0 r.range.1
 stored_ok_lem (Distribution.Int d) (ParamValue.Categorical v) r = r.taken
-stored_ok_lem (Distribution.Int d) (ParamValue.Refused v) r = r.taken
 stored_ok_lem (Distribution.Categorical d) (ParamValue.Float v) r = r.taken
 stored_ok_lem (Distribution.Categorical d) (ParamValue.Int v) r = r.taken
 stored_ok_lem (Distribution.Categorical d) (ParamValue.Categorical v) r = r.taken
-stored_ok_lem (Distribution.Categorical d) (ParamValue.Refused v) r = r.taken
 
 -- ---- the numbers of histories
 
@@ -111,19 +107,19 @@ refusal-small s h o =
 
 -- ---- the facts
 
-abbrev pub InRanges : List DimensionInfo → ℕ → Proposal → Type 0
-InRanges dims k c = (c.number ≡ 0) × ((j : ℕ) → j < k → T (stored_ok (dimension_at dims j).distribution (get_or c.values j empty_stored).value))
+abbrev pub InRanges : List DimensionInfo → ℕ → Result (Draw (List ParamValue)) Refusal → Type 0
+InRanges dims k r = (c : Draw (List ParamValue)) × (r ≡ Ok c) × ((j : ℕ) → j < k → T (stored_ok (dimension_at dims j).distribution (get_or c.value j empty_value)))
 
 module _ (settings : Settings) (dims : List DimensionInfo) (k word : ℕ) (g : Ready settings dims k word) (h : List ℕ) (r : check_of settings.slots h ≡ Ok tt) where
   abbrev view : View
   view = seen_of settings.slots settings.n_startup_trials dims k h
 
-  number : number_of (asked_of settings.slots dims k h) ≡ 0
+  asked : asked_of settings.slots dims k h ≡ Ok tt
   unfolding asked_of
-  number = rw (is_true (dimensions_ok dims k) g.dimensions, r)
+  asked = rw (is_true (dimensions_ok dims k) g.dimensions, r)
 
   training : training_of settings.slots dims k h ≡ Ok view.training
-  training = seen-training settings.slots settings.n_startup_trials dims k h number
+  training = seen-training settings.slots settings.n_startup_trials dims k h (rw asked)
 
   fit : T (leb 1 view.training.d) → T (fit_number (number_of (fit_for view.training settings.noise_variance)))
   fit m =
@@ -134,10 +130,10 @@ module _ (settings : Settings) (dims : List DimensionInfo) (k word : ℕ) (g : R
   -- a new trial's values are made and in range
   pub values-made : InRanges dims k (compute_candidate_of settings dims k word h)
   values-made =
-      let made = by-history settings dims k word h (is_true (settings_ok settings) g.settings-ok) (λ z. let l = g.nonzero.0 in omega arith) ∙ view-number settings.slots settings.n_startup_trials dims k h ∙ number in
-      subst (InRanges dims k) (sym (accepted-is settings dims k word h made)) (
-        candidate-number settings dims k word view,
-        λ j l. stored_ok_lem (dimension_at dims j).distribution _ (candidate-ranged settings dims k word view g.nonzero (λ _. view-columns settings dims k word h number) g.formed j l),
+      let m = candidate-ranged settings dims k word view g.nonzero (λ _. view-columns settings dims k word h asked) g.formed in (
+        m.made,
+        accepted-is settings dims k word h (is_true (settings_ok settings) g.settings-ok) (λ z. let l = g.nonzero.0 in omega arith) asked ∙ m.is,
+        λ j l. stored_ok_lem (dimension_at dims j).distribution _ (m.range j l),
       )
 
 -- the history that a call is served with is not refused where its own is not
@@ -159,5 +155,5 @@ pub nothing-refused : NothingRefused
 nothing-refused = record {
   fit = λ s h t o r. fit_of_lem s (well s t o) h r;
   values = λ s h t o r. values_of s (well s t o) h r;
-  random = λ s d f x t o. stored_ok_lem d (sample_random_of s.word d).value (random-ranged s.word d (ready s (well s t o)).nonzero f x);
+  random = λ s d f x t o. let r = random-ranged s.word d (ready s (well s t o)).nonzero f x in (r.draw, r.is, stored_ok_lem d r.draw.value r.range);
 }

@@ -1,53 +1,56 @@
--- What serving one trial does, by its three ways: the generator's moves, the place after it, its number, and how it sees a history. Assumes nothing.
-use Rattle.std.specs.Prelude.{Ok}
+-- What serving one trial does, by its three ways: the generator's moves, the place after it, whether it is accepted, and how it sees a history. Assumes nothing.
+use Rattle.std.specs.Prelude.{Option, Some, None, Result, Ok, Err, is_ok}
 use Prim.Native.Nat.{ℕ, ◌+◌, ◌-◌, ◌*◌, ◌≤◌, ◌<◌}
 use native.Mathlib.Omega.{arith}
-use mathlib.Core.Path.{◌≡◌, refl, sym, subst}
-use mathlib.Core.Bool.{true, false, ◌&&◌, cond}
+use mathlib.Core.Path.{◌≡◌, refl, sym, ap, ◌∙◌, subst}
+use mathlib.Core.Bool.{◌&&◌, cond}
 use mathlib.Core.List.{List}
-use lib.Dec.{T, eqb_refl, leb, le→leb, ltb}
+use lib.Dec.{T, leb, le→leb, ltb}
 use lib.ListN.{length}
 use lib.Ieee.Fits.{and_i}
 use borrow.Author.Tests.{ltb-true, ltb-false, lt-ltb, le-ltb}
-use Rattle.std.specs.Prelude.{is_ok}
+use Rattle.refusal.specs.declared.Refusal.{Refusal}
 use Rattle.arith.specs.Lists.{every}
-use Rattle.arith.proofs.Lists.{each-every, every-each}
-use Rattle.arith.proofs.Tests.{taken as passed, by-test}
+use Rattle.arith.specs.Outcome.{made}
+use Rattle.arith.proofs.Lists.{each-every}
+use Rattle.arith.proofs.Tests.{by-test}
+use Rattle.rng_util.specs.declared.Draw.{Draw}
+use Rattle.rng_util.specs.Draws.{drawn_by}
 use Rattle.rng_util.specs.Generator.{moved_of}
 use Rattle.rng_util.proofs.Nonzero.{Nonzero, moved-nonzero}
 use Rattle.distribution.specs.declared.Distribution.{Distribution}
+use Rattle.distribution.specs.declared.ParamValue.{ParamValue}
 use Rattle.distribution.specs.Shape.{shape_of}
 use Rattle.distribution.proofs.Facts.{parts}
 use Rattle.distribution_words.specs.RoundTrip.{Held}
-use Rattle.common.proofs.Moves.{random-moves}
+use Rattle.common.specs.Random.{sample_random_of}
+use Rattle.common.proofs.Moves.{Moved, random-moves}
 use Rattle.dimensions.specs.declared.DimensionInfo.{DimensionInfo}
 use Rattle.dimensions.specs.Dimensions.{dimension_at, columns_of}
 use Rattle.history_rows.specs.Tests.{check_of}
 use Rattle.history_view.specs.View.{view_of, seen_of}
 use Rattle.settings.specs.declared.Settings.{Settings}
 use Rattle.proposal.specs.Points.{fit_for}
-use Rattle.refusal.specs.Numbers.{number_of}
-use Rattle.param_mapping.specs.Mapping.{asked_of}
-use Rattle.proposal.specs.Proposal.{candidate_number, compute_candidate_of}
+use Rattle.proposal.specs.Proposal.{compute_candidate_of}
 use Rattle.proposal.proofs.Moving.{compute-moves}
 use Rattle.proposal.proofs.Ranges.{random-ranged}
 use Rattle.proposal.proofs.WordCount.{Drawable, random-word, compute-words}
 use Rattle.sampler_state.specs.declared.Place.{Place}
 use Rattle.sampler_state.specs.declared.Sampler.{Sampler}
-use Rattle.sampler_state.specs.State.{held_by, taken, holds, stored_ok, stored_at, progress_ok}
+use Rattle.sampler_state.specs.State.{held_by, stored_ok, stored_at, progress_ok}
 use Rattle.sampler_state.proofs.Held.{held-own}
 use Rattle.sampler_laws.specs.declared.Serving.{Serving}
-use Rattle.sampler_laws.specs.Calls.{next_of, past_of, new_trial_of, serving_of, serving_for}
-use Rattle.sampler_laws.proofs.Nothing.{stored_ok_lem, values-made}
+use Rattle.sampler_laws.specs.Calls.{next_of, past_of, stored_of, new_trial_of, serving_of, serving_for}
+use Rattle.sampler_laws.proofs.Nothing.{values-made}
 use Rattle.sampler_laws.proofs.Parts.{Ready}
 
--- it sees a history only through its number and its view
-pub serving-same : (settings : Settings) (dims : List DimensionInfo) (k word : ℕ) (p : Place) (d : Distribution) (trial : ℕ) (g h : List ℕ)
-    → number_of (asked_of settings.slots dims k g) ≡ number_of (asked_of settings.slots dims k h)
+-- it sees a history only through its view
+pub serving-same : (settings : Settings) (dims : List DimensionInfo) (k word : ℕ) (p : Option Place) (d : Distribution) (trial : ℕ) (g h : List ℕ)
     → view_of settings.slots settings.n_startup_trials dims k g ≡ view_of settings.slots settings.n_startup_trials dims k h
     → serving_of settings dims k word p d trial g ≡ serving_of settings dims k word p d trial h
-unfolding serving_of compute_candidate_of candidate_number
-serving-same settings dims k word p d trial g h n v = rw (v, n)
+unfolding serving_of compute_candidate_of
+serving-same settings dims k word (Some p) d trial g h v = refl
+serving-same settings dims k word None d trial g h v = rw v
 
 -- the words of a new trial's values: "the dimension count, or with a model candidates × continuous + choices"
 abbrev pub new_words : Settings → List DimensionInfo → ℕ → List ℕ → ℕ
@@ -56,46 +59,70 @@ new_words settings dims k h =
     let columns = length (columns_of dims k) in
     cond ((v.reached && leb 1 v.training.d) && is_ok (fit_for v.training settings.noise_variance)) (settings.n_candidates * columns + (k - columns)) k
 
-module _ (settings : Settings) (dims : List DimensionInfo) (k word : ℕ) (p : Place) (d : Distribution) (trial : ℕ) (h : List ℕ) where
-  abbrev served : Serving
+-- the words of a trial with that place: none for a stored value, one past the last, and those of a new trial's values
+abbrev pub words_for : Settings → List DimensionInfo → ℕ → Option Place → List ℕ → ℕ
+words_for settings dims k (Some p) h = cond (ltb p.next_dim k) 0 1
+words_for settings dims k None h = new_words settings dims k h
+
+module _ (settings : Settings) (dims : List DimensionInfo) (k word : ℕ) (p : Option Place) (d : Distribution) (trial : ℕ) (h : List ℕ) where
+  abbrev served : Result Serving Refusal
   served = serving_of settings dims k word p d trial h
 
   -- what holds of each way holds of the serving: a stored value, a draw past the last, or a new trial
-  pub by-serving : (P : Serving → Type 0) → (taken p ≡ true → p.next_dim < k → P (next_of word p)) → (taken p ≡ true → k ≤ p.next_dim → P (past_of word p d)) → (taken p ≡ false → P (new_trial_of settings dims k word trial h)) → P served
+  pub by-serving : (P : Result Serving Refusal → Type 0) → ((q : Place) → p ≡ Some q → q.next_dim < k → P (Ok (next_of word q))) → ((q : Place) → p ≡ Some q → k ≤ q.next_dim → P (past_of word q d))
+      → (p ≡ None → P (new_trial_of settings dims k word trial h)) → P served
   unfolding serving_of
-  by-serving P next past new = by-test P (taken p) _ _ (λ t. by-test P (ltb p.next_dim k) _ _ (λ l. next t (ltb-true p.next_dim k l)) (λ l. past t (ltb-false p.next_dim k l))) new
+  by-serving P next past new = go p refl
+    where
+      go : (o : Option Place) → p ≡ o → P (serving_of settings dims k word o d trial h)
+      go (Some q) e = by-test P (ltb q.next_dim k) _ _ (λ l. next q e (ltb-true q.next_dim k l)) (λ l. past q e (ltb-false q.next_dim k l))
+      go None e = new e
+
+  -- what holds of each accepted way holds of an accepted serving
+  pub by-served : (P : Serving → Type 0) → ((q : Place) → p ≡ Some q → q.next_dim < k → P (next_of word q))
+      → ((q : Place) → p ≡ Some q → k ≤ q.next_dim → (r : Draw ParamValue) → sample_random_of word d ≡ Ok r → P (record { draw = r; place = q }))
+      → (p ≡ None → (c : Draw (List ParamValue)) → compute_candidate_of settings dims k word h ≡ Ok c → P (stored_of trial c)) → (v : Serving) → served ≡ Ok v → P v
+  by-served P next past new =
+      by-serving (λ x. (v : Serving) → x ≡ Ok v → P v) (λ q e l v z. let f : next_of word q ≡ v = cc in subst P f (next q e l)) (λ q e l. drawn q e l (sample_random_of word d) refl)
+      (λ e. stored e (compute_candidate_of settings dims k word h) refl)
+    where
+      drawn : (q : Place) → p ≡ Some q → k ≤ q.next_dim → (x : Result (Draw ParamValue) Refusal) → sample_random_of word d ≡ x → (v : Serving) → made (λ r. record { draw = r; place = q }) x ≡ Ok v → P v
+      drawn q e l (Ok r) z v y = let f : record { draw = r; place = q } ≡ v = cc in subst P f (past q e l r z)
+      drawn q e l (Err c) z v y = absurd (cc)
+
+      stored : p ≡ None → (x : Result (Draw (List ParamValue)) Refusal) → compute_candidate_of settings dims k word h ≡ x → (v : Serving) → made (stored_of trial) x ≡ Ok v → P v
+      stored e (Ok c) z v y = let f : stored_of trial c ≡ v = cc in subst P f (new e c z)
+      stored e (Err c) z v y = absurd (cc)
 
   -- the word is moved as often as is said
-  pub serving-moves : served.next ≡ moved_of served.drawn word
-  serving-moves = by-serving (λ r. r.next ≡ moved_of r.drawn word) (λ _ _. unfold moved_of in refl) (λ _ _. (random-moves word d).next) (λ _. compute-moves settings dims k word h)
+  pub serving-moves : (v : Serving) → served ≡ Ok v → v.draw.next ≡ moved_of v.draw.drawn word
+  serving-moves = by-served (λ v. v.draw.next ≡ moved_of v.draw.drawn word) (λ _ _ _. unfold moved_of in refl) (λ _ _ _ r e. (subst (Moved word) e (random-moves word d)).next) (λ _ c e. compute-moves settings dims k word h c e)
 
-  pub serving-nonzero : Nonzero word → Nonzero served.next
-  serving-nonzero z = subst Nonzero (sym serving-moves) (moved-nonzero served.drawn word z)
+  pub serving-nonzero : Nonzero word → (v : Serving) → served ≡ Ok v → Nonzero v.draw.next
+  serving-nonzero z v e = subst Nonzero (sym (serving-moves v e)) (moved-nonzero v.draw.drawn word z)
 
   -- the place after it is the trial's
-  serving-own : (T (taken p) → T (holds trial p)) → T (holds trial served.place)
-  serving-own own = by-serving (λ r. T (holds trial r.place)) (λ t _. own (passed t)) (λ t _. own (passed t)) (λ _. eqb_refl trial)
+  pub serving-own : ((q : Place) → p ≡ Some q → q.trial ≡ trial) → (v : Serving) → served ≡ Ok v → v.place.trial ≡ trial
+  serving-own own = by-served (λ v. v.place.trial ≡ trial) (λ q e _. own q e) (λ q e _ _ _. own q e) (λ _ _ _. refl)
 
-  -- where the trial has no place, it is a new one
-  pub serving-new : taken p ≡ false → served ≡ new_trial_of settings dims k word trial h
-  unfolding serving_of
-  serving-new e = rw e
-
-  -- how many words it takes: none for a stored value, one past the last, and those of a new trial's values
-  pub serving-words : Nonzero word → ((j : ℕ) → j < k → Held (dimension_at dims j).distribution) → Drawable d → served.number ≡ 0
-      → served.drawn ≡ cond (taken p) (cond (ltb p.next_dim k) 0 1) (new_words settings dims k h)
+  -- how many words it takes
+  pub serving-words : Nonzero word → ((j : ℕ) → j < k → Held (dimension_at dims j).distribution) → Drawable d → (v : Serving) → served ≡ Ok v → v.draw.drawn ≡ words_for settings dims k p h
   serving-words z held f =
-      by-serving (λ r. r.number ≡ 0 → r.drawn ≡ cond (taken p) (cond (ltb p.next_dim k) 0 1) (new_words settings dims k h))
-      (λ t l _. rw (t, lt-ltb p.next_dim k l))
-      (λ t l _. rw (t, le-ltb p.next_dim k l) (random-word word d z f))
-      (λ t e. rw t (compute-words settings dims k word h z.1 held e))
+      by-served (λ v. v.draw.drawn ≡ words_for settings dims k p h) (λ q e l. rw (e, lt-ltb q.next_dim k l)) (λ q e l r y. rw (e, le-ltb q.next_dim k l) (sym (ap drawn_by y) ∙ random-word word d z f))
+      (λ e c y. rw e (compute-words settings dims k word h z.1 held c y))
 
   -- with the parts of a well-formed sampler it is accepted, and the place after it is in range
-  pub serving-ranged : Ready settings dims k word → 1 ≤ k → check_of settings.slots h ≡ Ok tt → (T (taken p) → T (progress_ok dims k p)) → (served.number ≡ 0) × T (progress_ok dims k served.place)
-  serving-ranged g some r ok =
-      by-serving (λ r. (r.number ≡ 0) × T (progress_ok dims k r.place)) (λ t l. (refl, further (ok (passed t)) l)) (λ t _. (refl, ok (passed t)))
+  pub record Ranged (x : Result Serving Refusal) : Type 0 where
+    pub serving : Serving
+    pub is : x ≡ Ok serving
+    pub place : T (progress_ok dims k serving.place)
+
+  pub serving-ranged : Ready settings dims k word → 1 ≤ k → check_of settings.slots h ≡ Ok tt → ((q : Place) → p ≡ Some q → T (progress_ok dims k q)) → Held d → T (shape_of d) → Ranged served
+  serving-ranged g some r ok held shape =
+      by-serving Ranged (λ q e l. record { serving = next_of word q; is = refl; place = further q (ok q e) l })
+      (λ q e _. let x = random-ranged word d g.nonzero held shape in record { serving = record { draw = x.draw; place = q }; is = rw x.is; place = ok q e })
       (λ _. let m = values-made settings dims k word g h r in
-      (m.0, progress (record { taken = true; trial = trial; values = (compute_candidate_of settings dims k word h).values; next_dim = 1 }) (omega arith) some (each-every k _ m.1)))
+      record { serving = stored_of trial m.0; is = rw m.1; place = progress (stored_of trial m.0).place (omega arith) some (each-every k _ m.2) })
     where
       progress : (q : Place) → 1 ≤ q.next_dim → q.next_dim ≤ k → T (every k (λ j. stored_ok (dimension_at dims j).distribution (stored_at q j))) → T (progress_ok dims k q)
       progress q l m v =
@@ -103,23 +130,9 @@ module _ (settings : Settings) (dims : List DimensionInfo) (k word : ℕ) (p : P
           let b = le→leb q.next_dim k m in
           search and_i
 
-      further : T (progress_ok dims k p) → p.next_dim < k → T (progress_ok dims k (next_of word p).place)
-      further o l = progress (next_of word p).place (omega arith) (omega arith) (search parts)
-
-  -- the distribution that is answered for: the dimension's, or past the last the one asked
-  abbrev answered : Distribution
-  answered = cond (taken p) (cond (ltb p.next_dim k) (dimension_at dims p.next_dim).distribution d) (dimension_at dims 0).distribution
-
-  -- and the value is in its range
-  pub serving-valued : Ready settings dims k word → 1 ≤ k → check_of settings.slots h ≡ Ok tt → (T (taken p) → T (progress_ok dims k p)) → Held d → T (shape_of d) → T (stored_ok answered served.value)
-  serving-valued g some r ok held shape =
-      by-serving (λ r. T (stored_ok answered r.value)) (λ t l. rw (t, lt-ltb p.next_dim k l) (inside (ok (passed t)) l))
-      (λ t l. rw (t, le-ltb p.next_dim k l) (stored_ok_lem d _ (random-ranged word d g.nonzero held shape)))
-      (λ t. rw t ((values-made settings dims k word g h r).1 0 some))
-    where
-      inside : T (progress_ok dims k p) → p.next_dim < k → T (stored_ok (dimension_at dims p.next_dim).distribution (stored_at p p.next_dim))
-      inside o l = every-each k (λ j. stored_ok (dimension_at dims j).distribution (stored_at p j)) (search parts) p.next_dim l
+      further : (q : Place) → T (progress_ok dims k q) → q.next_dim < k → T (progress_ok dims k (next_of word q).place)
+      further q o l = progress (next_of word q).place (omega arith) (omega arith) (search parts)
 
 -- a trial of this sampler is left a place of its own
-pub serves-own : (s : Sampler) → length s.places ≡ 32 → (d : Distribution) (trial : ℕ) (h : List ℕ) → T (holds trial (serving_for s d trial h).place)
+pub serves-own : (s : Sampler) → length s.places ≡ 32 → (d : Distribution) (trial : ℕ) (h : List ℕ) (v : Serving) → serving_for s d trial h ≡ Ok v → v.place.trial ≡ trial
 serves-own s n d trial h = serving-own s.settings s.dimensions s.n_dims s.word (held_by s.places trial) d trial h (held-own s.places n trial)

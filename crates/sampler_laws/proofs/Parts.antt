@@ -8,7 +8,7 @@ use lib.Dec.{T, T_not, eqb, leb}
 use lib.Ieee.Bits.{is_true}
 use lib.Ieee.Fits.{and_i, and_l, eq→eqb}
 use Rattle.arith.proofs.Lists.{every-each, each-every}
-use Rattle.distribution.proofs.Facts.{parts, asked}
+use Rattle.distribution.proofs.Facts.{parts}
 use Rattle.rng_util.proofs.Nonzero.{Nonzero}
 use Rattle.dimensions.specs.declared.DimensionInfo.{DimensionInfo}
 use Rattle.dimensions.specs.Dimensions.{dimension_at, dimensions_ok}
@@ -16,6 +16,8 @@ use Rattle.dimensions.proofs.Ok.{dimensions-ok}
 use Rattle.settings.specs.declared.Settings.{Settings}
 use Rattle.settings.specs.Settings.{settings_ok}
 use Rattle.proposal.proofs.Ranges.{Formed}
+use Rattle.std.specs.Prelude.{Option, Some, None}
+use Rattle.sampler_state.specs.declared.Place.{Place}
 use Rattle.sampler_state.specs.declared.Sampler.{Sampler}
 use Rattle.sampler_laws.specs.Laws.{Typed}
 use Rattle.sampler_state.specs.State.{place_at, taken, place_ok, sampler_ok}
@@ -54,10 +56,11 @@ parts-ok s o =
 -- a sampler with a taken place is active
 pub taken-active : (s : Sampler) → T (sampler_ok s) → (i : ℕ) → i < 32 → T (taken (place_at s.places i)) → s.active ≡ true
 unfolding place_ok
-taken-active s t i l h =
-    let q : T (place_ok s.active s.dimensions s.n_dims (place_at s.places i)) = (ok-parts s t).places i l in
-    let r = asked (taken (place_at s.places i)) _ q h in
-    is_true s.active (and_l s.active _ r)
+taken-active s t i l = go (place_at s.places i) ((ok-parts s t).places i l)
+  where
+    go : (p : Option Place) → T (place_ok s.active s.dimensions s.n_dims p) → T (taken p) → s.active ≡ true
+    go (Some q) o h = is_true s.active (and_l s.active _ o)
+    go None o h = absurd h
 
 -- as a program has it, and well-formed
 pub record Well (s : Sampler) : Type 0 where

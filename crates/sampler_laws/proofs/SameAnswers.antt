@@ -1,20 +1,19 @@
--- Two runs whose histories agree at each call answer the same and end in the same sampler: a history is seen only through its number and its view. Assumes nothing.
-use Rattle.std.specs.Prelude.{Option, Some, None}
+-- Two runs whose histories agree at each call answer the same and end in the same sampler: a history is seen only through its tests and its view. Assumes nothing.
+use Rattle.std.specs.Prelude.{Option, Some, None, Result}
+use Rattle.refusal.specs.declared.Refusal.{Refusal}
 use Prim.Native.Nat.{ℕ}
 use mathlib.Core.Path.{◌≡◌, refl, sym, ap, ◌∙◌, subst}
 use mathlib.Core.List.{List, ◌∷◌}
 use Rattle.distribution.specs.declared.Distribution.{Distribution}
-use Rattle.distribution.specs.declared.ParamValue.{ParamValue}
 use Rattle.history_view.specs.Agree.{Agree}
-use Rattle.refusal.specs.Numbers.{number_of}
-use Rattle.param_mapping.specs.Mapping.{asked_of as mapping_asked}
 use Rattle.history_view.proofs.Order.{order-free}
 use Rattle.settings.specs.declared.Settings.{Settings}
 use Rattle.sampler_state.specs.declared.Sampler.{Sampler}
 use Rattle.sampler_state.specs.State.{held_by}
+use Rattle.sampler_laws.specs.declared.Answer.{Answer}
 use Rattle.sampler_laws.specs.declared.Sampled.{Sampled}
 use Rattle.sampler_laws.specs.Calls.{active_of, served_of, asked_of, sample_of}
-use Rattle.sampler_laws.specs.Runs.{Asked, asks, closes, Call, call_of, answer_of, answers_of, end_of, Alike, alike-none, alike-asks, alike-closes}
+use Rattle.sampler_laws.specs.Runs.{Asked, asks, closes, Call, call_of, answers_of, end_of, Alike, alike-none, alike-asks, alike-closes}
 use Rattle.sampler_laws.proofs.Kept.{settings-kept}
 use Rattle.sampler_laws.proofs.OneTrial.{serving-same}
 use Rattle.sampler_laws.proofs.Ways.{read_asked}
@@ -28,13 +27,9 @@ module _ (s : Sampler) (g h : List ℕ) (a : Agree s.settings.slots s.settings.n
   abbrev startup : ℕ
   startup = s.settings.n_startup_trials
 
-  number_same : number_of (mapping_asked n s.dimensions s.n_dims g) ≡ number_of (mapping_asked n s.dimensions s.n_dims h)
-  unfolding mapping_asked
-  number_same = rw (order-free.refusal n startup g h a)
-
   active-same : (d : Distribution) (trial : ℕ) → active_of s d trial g ≡ active_of s d trial h
   unfolding active_of
-  active-same d trial = rw (serving-same s.settings s.dimensions s.n_dims s.word (held_by s.places trial) d trial g h number_same (order-free.view n startup s.dimensions s.n_dims g h a))
+  active-same d trial = rw (serving-same s.settings s.dimensions s.n_dims s.word (held_by s.places trial) d trial g h (order-free.view n startup s.dimensions s.n_dims g h a))
 
   served-same : (d : Distribution) (trial : ℕ) → served_of s d trial g ≡ served_of s d trial h
   unfolding served_of
@@ -56,7 +51,7 @@ runs_same t s e alike-none = (refl, refl)
 runs_same t s e (alike-asks d trial g h {cs} {ds} a rest) =
     let p = sample-same s g h (subst (λ (x : Settings). Agree x.slots x.n_startup_trials g h) (sym e) a) d trial in
     let r = runs_same t (call_of s (asks d trial g)).sampler (settings-kept s (asks d trial g) ∙ e) rest in
-    (ap (λ (x : List (ℕ × ParamValue × ℕ)). answer_of (call_of s (asks d trial g)) ∷ x) r.0 ∙ ap (λ (x : Sampled). answer_of x ∷ answers_of x.sampler ds) p, r.1 ∙ ap (λ (x : Sampled). end_of x.sampler ds) p)
+    (ap (λ (x : List (Result Answer Refusal)). (call_of s (asks d trial g)).answer ∷ x) r.0 ∙ ap (λ (x : Sampled). x.answer ∷ answers_of x.sampler ds) p, r.1 ∙ ap (λ (x : Sampled). end_of x.sampler ds) p)
 runs_same t s e (alike-closes trial {cs} {ds} rest) =
     let r = runs_same t (call_of s (closes trial)).sampler (settings-kept s (closes trial) ∙ e) rest in
-    (ap (λ (x : List (ℕ × ParamValue × ℕ)). answer_of (call_of s (closes trial)) ∷ x) r.0, r.1)
+    (ap (λ (x : List (Result Answer Refusal)). (call_of s (closes trial)).answer ∷ x) r.0, r.1)

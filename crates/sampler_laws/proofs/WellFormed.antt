@@ -2,8 +2,11 @@
 use Prim.Native.Nat.{ℕ, ◌^◌, ◌<◌}
 use native.Mathlib.Nat.{not-suc-le-zero}
 use native.Mathlib.Omega.{arith}
-use Rattle.refusal.specs.Numbers.{number_of}
-use mathlib.Core.Path.{◌≡◌, refl, sym, ap, subst}
+use Rattle.std.specs.Prelude.{Option, Some, None, Ok, Err}
+use Rattle.refusal.specs.declared.Refusal.{Refusal}
+use Rattle.refusal.specs.declared.Refusal.TheVariants.{OutOfDomain}
+use Rattle.refusal.specs.Numbers.{cause_number, number_of}
+use mathlib.Core.Path.{◌≡◌, refl, sym, ap, ◌∙◌, subst}
 use mathlib.Core.Bool.{Bool, true, false, not, ◌||◌, true≢false}
 use mathlib.Core.List.{List, [], ◌∷◌}
 use mathlib.Core.Logic.{inl, inr}
@@ -15,44 +18,47 @@ use Rattle.arith.proofs.Tests.{taken as passed, untaken}
 use Rattle.distribution.proofs.Facts.{parts}
 use Rattle.rng_util.proofs.Nonzero.{moved-nonzero, Nonzero}
 use Rattle.distribution.specs.declared.Distribution.{Distribution}
-use Rattle.common.specs.Random.{sample_random_of}
-use Rattle.common.proofs.Moves.{random-moves}
+use Rattle.distribution.specs.Shape.{shape_of}
+use Rattle.distribution_words.specs.RoundTrip.{Held}
+use Rattle.common.proofs.Moves.{Moved, random-moves}
+use Rattle.proposal.proofs.Ranges.{random-ranged}
 use Rattle.dimensions.specs.Dimensions.{dimensions_ok}
 use Rattle.settings.specs.declared.Settings.{Settings}
 use Rattle.settings.specs.Settings.{settings_ok}
 use Rattle.sampler_state.specs.declared.Place.{Place}
 use Rattle.sampler_state.specs.declared.Sampler.{Sampler}
-use Rattle.sampler_state.specs.State.{empty_place, fresh_of, place_at, taken, held_by, progress_ok, sampler_ok}
+use Rattle.sampler_state.specs.State.{empty_place, fresh_of, place_at, held_by, progress_ok, place_ok, sampler_ok}
 use Rattle.sampler_state.proofs.Held.{Once, own-or-none, spot-once, emptied-once}
+use Rattle.sampler_laws.specs.declared.Accepted.{Accepted}
 use Rattle.sampler_laws.specs.declared.Sampled.{Sampled}
 use Rattle.sampler_laws.specs.declared.Serving.{Serving}
-use Rattle.sampler_laws.specs.Calls.{with_place, activated, with_dimension, written_of, spot_of}
+use Rattle.sampler_laws.specs.Calls.{answered_of, with_place, activated, with_dimension, drawn_of, written_of, spot_of, freed_of}
 use Rattle.sampler_laws.specs.Laws.{WellFormed}
 use Rattle.sampler_laws.specs.NewTrials.{past_discovery, served_history}
 use Rattle.sampler_laws.specs.Runs.{Asked, asks, closes, Call, call_of, Along}
 use Rattle.sampler_laws.proofs.Asked.{read_held}
 use Rattle.sampler_laws.proofs.Changes.{free-ok, taken-ok, ok-taken, dimension-formed, with-word, with-place, ended, with-dimension}
 use Rattle.sampler_laws.proofs.Nothing.{served-accepted, refusal-small}
-use Rattle.sampler_laws.proofs.OneTrial.{serving-nonzero, serving-ranged, serves-own}
+use Rattle.sampler_laws.proofs.OneTrial.{Ranged, serving-nonzero, serving-ranged, serves-own}
 use Rattle.sampler_laws.proofs.Parts.{Well, well, parts-ok, ready}
-use Rattle.sampler_laws.proofs.Ways.{Passed, served_now, Refusing, malformed-sampler, malformed-asked, bad-history, no-dimension, no_place, no-values, discovering, is-activated, by-sample, by-close}
+use Rattle.sampler_laws.proofs.Ways.{Passed, served_now, Refusing, malformed-sampler, malformed-asked, bad-history, no-dimension, no-draw, no_place, no-values, discovering, is-activated, by-sample, by-close}
 
 -- ---- a serving written back
 
 -- a place in range and a word, where no trial gets a second place
-put-well : (s : Sampler) → Well s → s.active ≡ true → (i : ℕ) (r : Serving) → i < 32 → T (progress_ok s.dimensions s.n_dims r.place) → Nonzero r.next → Once (set s.places i r.place) → Well (written_of s i r).sampler
-put-well s g a i r l ok z once =
-    with-word (with_place s i r.place) (with-place s g i r.place l (taken-ok s.active s.dimensions s.n_dims r.place (passed a) ok) once) r.next z
+put-well : (s : Sampler) → Well s → s.active ≡ true → (i : ℕ) (v : Serving) → i < 32 → T (progress_ok s.dimensions s.n_dims v.place) → Nonzero v.draw.next → Once (set s.places i (Some v.place)) → Well (written_of s i v).sampler
+put-well s g a i v l ok z once =
+    with-word (with_place s i (Some v.place)) (with-place s g i (Some v.place) l (taken-ok s.active s.dimensions s.n_dims v.place (passed a) ok) once) v.draw.next z
 
 -- ---- a sample call
 
 -- an answer with a well-formed sampler that is not 11
 pub record Good (r : Sampled) : Type 0 where
   pub well : Well r.sampler
-  pub answered : r.number ≡ 11 → ⊥
+  pub answered : r.answer ≡ Err OutOfDomain → ⊥
 
-accepted : (r : Sampled) → r.number ≡ 0 → Well r.sampler → Good r
-accepted r e w = record { well = w; answered = λ n. omega arith }
+accepted : (s : Sampler) (a : Accepted) → Well a.sampler → Good (answered_of s (Ok a))
+accepted s a w = record { well = w; answered = λ n. cc }
 
 module _ (s : Sampler) (g : Well s) where
   -- past discovery the sampler goes on as an active one
@@ -64,49 +70,52 @@ module _ (s : Sampler) (g : Well s) where
       go false true e z past = absurd (true≢false (sym past))
       go false false e z past = ended s g e (eqb-false s.n_dims 0 z)
 
-  -- a taken place that is found is in range
-  held-ok : (trial : ℕ) → T (taken (held_by s.places trial)) → T (progress_ok s.dimensions s.n_dims (held_by s.places trial))
-  held-ok trial h = elim (own-or-none s.places g.typed.places trial) [
-    | inl o ↦ (ok-taken s.active s.dimensions s.n_dims (held_by s.places trial) (g.ok.places _ o.below) h).1
-    | inr o ↦ absurd (subst (λ (p : Place). T (taken p)) o.empty h)
+  -- what a trial's place holds is in range
+  held-ok : (trial : ℕ) (q : Place) → held_by s.places trial ≡ Some q → T (progress_ok s.dimensions s.n_dims q)
+  held-ok trial q e = elim (own-or-none s.places g.typed.places trial) [
+    | inl o ↦ (ok-taken s.active s.dimensions s.n_dims q (subst (λ (p : Option Place). T (place_ok s.active s.dimensions s.n_dims p)) e (g.ok.places _ o.below))).1
+    | inr o ↦ absurd (let z = sym o.empty ∙ e in cc)
   ]
 
   module _ (d : Asked) (trial : ℕ) (h : List ℕ) where
-    served : (r : Distribution) → Passed s d h r → past_discovery s trial ≡ true → ((served_now s r trial h).number ≡ 0) × (spot_of s trial < 32 → Well (written_of (activated s) (spot_of s trial) (served_now s r trial h)).sampler)
-    served r p past =
-        let w = goes_on trial past in
-        let q = held_by s.places trial in
-        let lent = served_history s h in
-        let z = ready s g in
-        let x = serving-ranged s.settings s.dimensions s.n_dims s.word q r trial lent z (leb→le 1 s.n_dims w.ok.some) (served-accepted s h g.ok.settings p.history) (held-ok trial) in
-        let own = serves-own s g.typed.places r trial lent in (
-          x.0,
-          λ l. put-well (activated s) w refl (spot_of s trial) (served_now s r trial h) l x.1 (serving-nonzero s.settings s.dimensions s.n_dims s.word q r trial lent z.nonzero)
-              (spot-once s.places g.typed.places g.ok.once trial _ l own),
-        )
+    held-read : (r : Distribution) → Passed s d h r → Held r × T (shape_of r)
+    held-read r p = read_held d.kind d.low d.high d.log d.stepped d.step r p.read
 
-    not-11 : {n : ℕ} → Refusing s d trial h n → n ≡ 11 → ⊥
+    served : (r : Distribution) (p : Passed s d h r) → past_discovery s trial ≡ true → Ranged s.settings s.dimensions s.n_dims s.word (held_by s.places trial) r trial (served_history s h) (served_now s r trial h)
+    served r p past =
+        let f = held-read r p in
+        serving-ranged s.settings s.dimensions s.n_dims s.word (held_by s.places trial) r trial (served_history s h) (ready s g) (leb→le 1 s.n_dims (goes_on trial past).ok.some)
+        (served-accepted s h g.ok.settings p.history) (held-ok trial) f.0 f.1
+
+    not-11 : {c : Refusal} → Refusing s d trial h c → c ≡ OutOfDomain → ⊥
     not-11 (malformed-sampler x) e = T_not (sampler_ok s) (untaken x) (parts-ok s g.ok)
-    not-11 malformed-asked e = omega arith
-    not-11 (bad-history r x) e = let l = refusal-small s.settings h g.ok.settings in let n = ap number_of x in omega arith
-    not-11 no-dimension e = omega arith
-    not-11 (no_place l) e = omega arith
-    not-11 (no-values r p past x) e = x (served r p past).0
+    not-11 malformed-asked e = let z = ap cause_number e in omega arith
+    not-11 (bad-history c x) e = let l = refusal-small s.settings h g.ok.settings in let n = ap number_of x in let z = ap cause_number e in omega arith
+    not-11 no-dimension e = let z = ap cause_number e in omega arith
+    not-11 (no-draw r p c x) e = let f = held-read r p in let z = sym (random-ranged s.word r (ready s g).nonzero f.0 f.1).is ∙ x in cc
+    not-11 (no_place l) e = let z = ap cause_number e in omega arith
+    not-11 (no-values r p past c x) e = let z = sym (served r p past).is ∙ x in cc
 
     sampled : Good (call_of s (asks d trial h))
     sampled =
-        by-sample s d trial h Good (λ n x. record { well = g; answered = not-11 x })
-        (λ r p a n.
-        let f = read_held d.kind d.low d.high d.log d.stepped d.step r p.read in
+        by-sample s d trial h Good (λ c x. record { well = g; answered = λ e. not-11 x (let z : c ≡ OutOfDomain = cc in z) })
+        (λ r p a n x e.
+        let f = held-read r p in
         let w = with-dimension s g trial r (discovering s trial a) n (dimension-formed r f.0 f.1) in
-        let x = sample_random_of s.word r in
-        accepted _ refl (with-word (with_dimension s trial r) w x.next (subst Nonzero (sym (random-moves s.word r).next) (moved-nonzero x.drawn s.word (ready s g).nonzero))))
-        (λ r p past l _. accepted _ refl ((served r p past).1 l))
+        accepted s (drawn_of (with_dimension s trial r) x) (with-word (with_dimension s trial r) w x.next (subst Nonzero (sym (subst (Moved s.word) e (random-moves s.word r)).next) (moved-nonzero x.drawn s.word (ready s g).nonzero))))
+        (λ r p past l v e.
+        let x = served r p past in
+        let f : x.serving ≡ v = (let z = sym x.is ∙ e in cc) in
+        let own = serves-own s g.typed.places r trial (served_history s h) v e in
+        accepted s (written_of (activated s) (spot_of s trial) v)
+        (put-well (activated s) (goes_on trial past) refl (spot_of s trial) v l (subst (λ (v : Serving). T (progress_ok s.dimensions s.n_dims v.place)) f x.place)
+        (serving-nonzero s.settings s.dimensions s.n_dims s.word (held_by s.places trial) r trial (served_history s h) (ready s g).nonzero v e)
+        (spot-once s.places g.typed.places g.ok.once trial v.place l own)))
 
   close : (trial : ℕ) → Good (call_of s (closes trial))
   close trial =
-      by-close s trial Good (λ e. absurd (T_not (sampler_ok s) (untaken e) (parts-ok s g.ok))) (record { well = g; answered = λ e. omega arith })
-      (λ l. accepted _ refl (with-place s g _ empty_place l (free-ok s.active s.dimensions s.n_dims empty_place tt) (emptied-once s.places g.typed.places g.ok.once trial l)))
+      by-close s trial Good (λ e. absurd (T_not (sampler_ok s) (untaken e) (parts-ok s g.ok))) (record { well = g; answered = λ e. let z = ap number_of e in omega arith })
+      (λ l. accepted s (freed_of s trial) (with-place s g _ empty_place l (free-ok s.active s.dimensions s.n_dims empty_place refl) (emptied-once s.places g.typed.places g.ok.once trial l)))
 
 good : (s : Sampler) (c : Call) → Well s → Good (call_of s c)
 good s (asks d trial h) g = sampled s g d trial h
@@ -123,17 +132,17 @@ fresh s l o = record {
     dimensions = unfold dimensions_ok every in tt;
     some = tt;
     places = λ i m. free-ok false (fresh_of s).dimensions 0 (place_at (fresh_of s).places i) (empty i m);
-    once = λ j m x. absurd (T_not (taken (place_at (fresh_of s).places j)) (empty j m) x);
+    once = λ j q m x. absurd (let z = sym (empty j m) ∙ x in cc);
   };
 }
   where
     seed : T (settings_ok s) → T (not (eqb s.seed 0))
     seed o = unfold settings_ok in search parts depth 9
 
-    empty : (i : ℕ) → i < 32 → T (not (taken (place_at (fresh_of s).places i)))
-    empty i m = rw (get_or-replicate 32 i empty_place empty_place m) tt
+    empty : (i : ℕ) → i < 32 → place_at (fresh_of s).places i ≡ None
+    empty i m = get_or-replicate 32 i empty_place empty_place m
 
-along : (s : Sampler) (cs : List Call) → Well s → Along (λ t c. (call_of t c).number ≡ 11 → ⊥) s cs
+along : (s : Sampler) (cs : List Call) → Well s → Along (λ t c. (call_of t c).answer ≡ Err OutOfDomain → ⊥) s cs
 unfolding Along
 along s [] g = tt
 along s (c ∷ cs) g = let h = good s c g in (h.answered, along (call_of s c).sampler cs h.well)

@@ -1,24 +1,30 @@
 -- What is promised of the calls, for every sampler and every run. Statements only, proved in proofs/.
-use Rattle.std.specs.Prelude.{ℕ, ◌+◌, ◌*◌, ◌^◌, ◌<◌, ◌≡◌, Bool, true, ◌&&◌, ◌||◌, cond, List, T, eqb, ltb, length, Some, Ok}
+use Rattle.std.specs.Prelude.{ℕ, ◌+◌, ◌*◌, ◌^◌, ◌<◌, ◌≡◌, Bool, false, ◌&&◌, ◌||◌, cond, List, T, eqb, ltb, length, get_or, Option, Some, None, Ok, Err, is_ok}
 use Rattle.std.specs.Float.{binary64}
 use Rattle.std.specs.Float.Ieee.{fits}
+use Rattle.refusal.specs.declared.Refusal.{Refusal}
+use Rattle.refusal.specs.declared.Refusal.TheVariants.{NoPlace, OutOfDomain}
 use Rattle.refusal.specs.Numbers.{number_of}
+use Rattle.rng_util.specs.declared.Draw.{Draw}
 use Rattle.rng_util.specs.Generator.{moved_of}
 use Rattle.distribution.specs.declared.Distribution.{Distribution}
+use Rattle.distribution.specs.declared.ParamValue.{ParamValue}
 use Rattle.distribution_words.specs.RoundTrip.{Held}
 use Rattle.distribution.specs.Shape.{shape_of}
 use Rattle.distribution_words.specs.Words.{read_of}
 use Rattle.common.specs.Random.{sample_random_of}
 use Rattle.dimensions.specs.Dimensions.{dimension_at}
+use Rattle.dimensions.specs.Empty.{empty_value}
 use Rattle.history_rows.specs.Tests.{check_of}
 use Rattle.settings.specs.declared.Settings.{Settings}
 use Rattle.settings.specs.Settings.{settings_ok}
 use Rattle.proposal.specs.Proposal.{compute_candidate_of}
 use Rattle.sampler_state.specs.declared.Place.{Place}
 use Rattle.sampler_state.specs.declared.Sampler.{Sampler}
+use Rattle.sampler_laws.specs.declared.Answer.{Answer}
 use Rattle.sampler_laws.specs.NewTrials.{new_trial, served_history, fit_made, fit_answer, has_model, continuous, choices, BestStored}
-use Rattle.sampler_laws.specs.Runs.{Asked, asks, closes, Call, call_of, answers_of, end_of, Along, Alike}
-use Rattle.sampler_state.specs.State.{fresh_of, place_at, trial_place, taken_count, stored_at, stored_ok, sampler_ok}
+use Rattle.sampler_laws.specs.Runs.{Asked, asks, closes, Call, call_of, drawn_in, answers_of, end_of, Along, Alike}
+use Rattle.sampler_state.specs.State.{fresh_of, trial_place, held_by, taken_count, stored_ok, sampler_ok}
 
 -- ---- demand 3, one statement about the whole list
 
@@ -32,9 +38,14 @@ EqualRuns =
 
 -- ---- words drawn
 
+-- a place with a value for its next dimension
+abbrev pub has_next : ℕ → Option Place → Bool
+has_next k (Some p) = ltb p.next_dim k
+has_next k None = false
+
 -- a trial whose next value is stored
 abbrev pub stored_next : Sampler → ℕ → Bool
-stored_next s trial = s.active && ltb (trial_place s.places trial) 32 && ltb (place_at s.places (trial_place s.places trial)).next_dim s.n_dims
+stored_next s trial = s.active && has_next s.n_dims (held_by s.places trial)
 
 -- "a new trial takes the dimension count, or with a model candidates × continuous + choices; a stored value 0; any other 1"
 unfoldable pub words_taken : Sampler → Call → ℕ
@@ -53,9 +64,9 @@ pub record Typed (s : Sampler) : Type 0 where
 
 -- "Words drawn: the generator's moves in a call, 0 if refused."
 pub record WordsDrawn : Type 0 where
-  pub moves : (s : Sampler) (c : Call) → (call_of s c).sampler.word ≡ moved_of (call_of s c).drawn s.word
-  pub refused : (s : Sampler) (c : Call) → ((call_of s c).number ≡ 0 → ⊥) → ((call_of s c).drawn ≡ 0) × ((call_of s c).sampler ≡ s)
-  pub counts : (s : Sampler) (c : Call) → Typed s → (call_of s c).number ≡ 0 → (call_of s c).drawn ≡ words_taken s c
+  pub moves : (s : Sampler) (c : Call) → (call_of s c).sampler.word ≡ moved_of (drawn_in (call_of s c)) s.word
+  pub refused : (s : Sampler) (c : Call) (cause : Refusal) → (call_of s c).answer ≡ Err cause → (drawn_in (call_of s c) ≡ 0) × ((call_of s c).sampler ≡ s)
+  pub counts : (s : Sampler) (c : Call) (a : Answer) → Typed s → (call_of s c).answer ≡ Ok a → a.drawn ≡ words_taken s c
 
 -- ---- well-formed samplers
 
@@ -65,7 +76,7 @@ pub record WellFormed : Type 0 where
   -- after a call
   pub call : (s : Sampler) (c : Call) → Typed s → T (sampler_ok s) → Typed (call_of s c).sampler × T (sampler_ok (call_of s c).sampler)
   -- so no call of a run meets 11
-  pub run : (s : Settings) → s.seed < 2 ^ 64 → T (settings_ok s) → (cs : List Call) → Along (λ t c. (call_of t c).number ≡ 11 → ⊥) (fresh_of s) cs
+  pub run : (s : Settings) → s.seed < 2 ^ 64 → T (settings_ok s) → (cs : List Call) → Along (λ t c. (call_of t c).answer ≡ Err OutOfDomain → ⊥) (fresh_of s) cs
 
 -- inside a call with a history that is not refused
 pub record NothingRefused : Type 0 where
@@ -73,12 +84,11 @@ pub record NothingRefused : Type 0 where
   pub fit : (s : Sampler) (h : List ℕ) → Typed s → T (sampler_ok s) → check_of s.settings.slots h ≡ Ok tt → T (fit_made s h) → T (eqb (number_of (fit_answer s h)) 0 || eqb (number_of (fit_answer s h)) 12 || eqb (number_of (fit_answer s h)) 13)
   -- a new trial's values are made and in range: no decoding and no draw is refused, nor an exp or ln in it
   pub values : (s : Sampler) (h : List ℕ) → Typed s → T (sampler_ok s) → check_of s.settings.slots h ≡ Ok tt
-      → let c = compute_candidate_of s.settings s.dimensions s.n_dims s.word (served_history s h) in
-      let p : Place = record { taken = true; trial = 0; values = c.values; next_dim = 1 } in
-      (c.number ≡ 0)
-      × ((j : ℕ) → j < s.n_dims → T (stored_ok (dimension_at s.dimensions j).distribution (stored_at p j)))
+      → (c : Draw (List ParamValue)) × (compute_candidate_of s.settings s.dimensions s.n_dims s.word (served_history s h) ≡ Ok c)
+      × ((j : ℕ) → j < s.n_dims → T (stored_ok (dimension_at s.dimensions j).distribution (get_or c.value j empty_value)))
   -- nor is any other draw
-  pub random : (s : Sampler) (d : Distribution) → Held d → T (shape_of d) → Typed s → T (sampler_ok s) → T (stored_ok d (sample_random_of s.word d).value)
+  pub random : (s : Sampler) (d : Distribution) → Held d → T (shape_of d) → Typed s → T (sampler_ok s)
+      → (r : Draw ParamValue) × (sample_random_of s.word d ≡ Ok r) × T (stored_ok d r.value)
 
 -- ---- places
 
@@ -88,9 +98,9 @@ pub record PlacesCounted : Type 0 where
       → taken_count (call_of s (asks d trial h)).sampler.places ≡ taken_count s.places + cond (new_trial s (asks d trial h)) 1 0
   -- one less after an accepted close, else as many
   pub closed : (s : Sampler) (trial : ℕ) → Typed s
-      → taken_count (call_of s (closes trial)).sampler.places + cond (eqb (call_of s (closes trial)).number 0) 1 0 ≡ taken_count s.places
+      → taken_count (call_of s (closes trial)).sampler.places + cond (is_ok (call_of s (closes trial)).answer) 1 0 ≡ taken_count s.places
   -- 9 exactly when 32 are taken and the trial has none
-  pub full : (s : Sampler) (d : Asked) (trial : ℕ) (h : List ℕ) → (call_of s (asks d trial h)).number ≡ 9 → (taken_count s.places ≡ 32) × (trial_place s.places trial ≡ 32)
+  pub full : (s : Sampler) (d : Asked) (trial : ℕ) (h : List ℕ) → (call_of s (asks d trial h)).answer ≡ Err NoPlace → (taken_count s.places ≡ 32) × (trial_place s.places trial ≡ 32)
   pub ninth : (s : Sampler) (d : Asked) (r : Distribution) (trial : ℕ) (h : List ℕ)
       → T (sampler_ok s) → read_of d.kind d.low d.high d.log d.stepped d.step ≡ Some r → check_of s.settings.slots h ≡ Ok tt
-      → taken_count s.places ≡ 32 → trial_place s.places trial ≡ 32 → (call_of s (asks d trial h)).number ≡ 9
+      → taken_count s.places ≡ 32 → trial_place s.places trial ≡ 32 → (call_of s (asks d trial h)).answer ≡ Err NoPlace

@@ -1,5 +1,5 @@
 -- A new trial, its model, the points drawn for it and what it stores, in document 01's words. Nothing here speaks of how the search goes. Definitions only.
-use Rattle.std.specs.Prelude.{ℕ, ◌+◌, ◌*◌, ◌-◌, ◌<◌, ◌≡◌, Bool, false, not, ◌&&◌, ◌||◌, cond, List, [], T, eqb, leb, length, get_or, replicate, Float, Result, Ok, is_ok}
+use Rattle.std.specs.Prelude.{ℕ, ◌+◌, ◌*◌, ◌-◌, ◌<◌, ◌≡◌, Bool, false, not, ◌&&◌, ◌||◌, cond, List, [], T, eqb, leb, length, get_or, replicate, Float, Some, Result, Ok, is_ok}
 use Rattle.std.specs.Float.{nan, binary64}
 use Rattle.std.specs.Float.Ieee.{lt, le, of_bits}
 use Rattle.refusal.specs.declared.Refusal.{Refusal}
@@ -14,6 +14,7 @@ use Rattle.dimensions.specs.Dimensions.{dimension_at, columns_of}
 use Rattle.history_view.specs.View.{seen_of}
 use Rattle.proposal.specs.Points.{fit_for}
 use Rattle.proposal.specs.Values.{decode_of}
+use Rattle.sampler_state.specs.declared.Place.{Place}
 use Rattle.sampler_state.specs.declared.Sampler.{Sampler}
 use Rattle.sampler_laws.specs.Runs.{asks, closes, Call, call_of}
 use Rattle.sampler_state.specs.State.{stored_at, trial_place, held_by}
@@ -25,7 +26,7 @@ abbrev pub past_discovery : Sampler → ℕ → Bool
 past_discovery s trial = s.active || not (eqb s.n_dims 0 || eqb trial s.discovery_trial_id)
 
 abbrev pub accepted : Sampler → Call → Bool
-accepted s c = eqb (call_of s c).number 0
+accepted s c = is_ok (call_of s c).answer
 
 unfoldable pub new_trial : Sampler → Call → Bool
 new_trial s (asks d trial h) = accepted s (asks d trial h) && past_discovery s trial && eqb (trial_place s.places trial) 32
@@ -66,10 +67,10 @@ point_drawn s c = list_of (λ j. unit_of (get_or (stream_of (s.settings.n_candid
 -- after a call on s the trial has a place, which holds for each continuous dimension of s the decoding of its
 -- coordinate: "scales each to the internal bounds as `gp.rs` does, then applies `from_internal`"
 pub record Stores (s after : Sampler) (trial : ℕ) (point : List Float) : Type 0 where
-  pub placed : trial_place after.places trial < 32
+  pub place : Place
+  pub placed : held_by after.places trial ≡ Some place
   pub decoded : (j : ℕ) → j < s.n_dims → T (continuous_of (dimension_at s.dimensions j).distribution)
-      → stored_at (held_by after.places trial) j
-      ≡ decode_of (dimension_at s.dimensions j) (get_or point (length (columns_of s.dimensions j)) nan)
+      → decode_of (dimension_at s.dimensions j) (get_or point (length (columns_of s.dimensions j)) nan) ≡ Ok (stored_at place j)
 
 -- "the decoding of one point: the earliest drawn for it whose expected improvement under that model is at least that of every other one drawn for it. With no candidates it is the decoding of all 0.5."
 pub record StoresBest (s after : Sampler) (trial : ℕ) (m : Model) : Type 0 where

@@ -1,7 +1,9 @@
 -- Runs of calls, and two runs whose histories agree. Definitions only.
-use Rattle.std.specs.Prelude.{ℕ, List, [], ◌∷◌}
-use Rattle.distribution.specs.declared.ParamValue.{ParamValue}
+use Rattle.std.specs.Prelude.{ℕ, List, [], ◌∷◌, Result, Ok, Err}
+use Rattle.refusal.specs.declared.Refusal.{Refusal}
+use Rattle.refusal.specs.Numbers.{number_of}
 use Rattle.history_view.specs.Agree.{Agree}
+use Rattle.sampler_laws.specs.declared.Answer.{Answer}
 use Rattle.sampler_laws.specs.declared.Sampled.{Sampled}
 use Rattle.sampler_state.specs.declared.Sampler.{Sampler}
 use Rattle.sampler_laws.specs.Calls.{sample_of, close_of}
@@ -24,14 +26,21 @@ abbrev pub call_of : Sampler → Call → Sampled
 call_of s (asks d trial h) = sample_of s d.kind d.low d.high d.log d.stepped d.step trial h
 call_of s (closes trial) = close_of s trial
 
--- what a call answers beside the sampler: number, value and words drawn
-abbrev pub answer_of : Sampled → ℕ × ParamValue × ℕ
-answer_of r = (r.number, r.value, r.drawn)
+-- the number of a call, 0 where it is accepted, and the words it draws, 0 where it is refused
+abbrev pub call_number : Sampled → ℕ
+call_number r = number_of r.answer
+
+abbrev pub words_in : Result Answer Refusal → ℕ
+words_in (Ok a) = a.drawn
+words_in (Err cause) = 0
+
+abbrev pub drawn_in : Sampled → ℕ
+drawn_in r = words_in r.answer
 
 -- "Each call gets the sampler that the one before handed back"
-unfoldable pub answers_of : Sampler → List Call → List (ℕ × ParamValue × ℕ)
+unfoldable pub answers_of : Sampler → List Call → List (Result Answer Refusal)
 answers_of s [] = []
-answers_of s (c ∷ cs) = answer_of (call_of s c) ∷ answers_of (call_of s c).sampler cs
+answers_of s (c ∷ cs) = (call_of s c).answer ∷ answers_of (call_of s c).sampler cs
 
 unfoldable pub end_of : Sampler → List Call → Sampler
 end_of s [] = s

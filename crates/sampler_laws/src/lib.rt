@@ -4,23 +4,34 @@
 pub mod laws;
 
 use distribution::ParamValue;
+use refusal::Refusal;
+use rng_util::Draw;
 use sampler_state::{Place, Sampler};
 
-// What a call answers: number is 0, or the refusal's with its number as the value, no word drawn and the sampler as it was.
+// What an accepted call answers: a value, none for a close, and the words drawn.
+#[derive(Clone, Copy)]
+pub struct Answer {
+    pub value: Option<ParamValue>,
+    pub drawn: u64,
+}
+
+// What a call answers, and the sampler after it: as it was where the call is refused.
 #[derive(Drop)]
 pub struct Sampled {
-    pub number: u64,
-    pub value: ParamValue,
-    pub drawn: u64,
+    pub answer: Result<Answer, Refusal>,
     pub sampler: Sampler,
 }
 
-// What a call of one trial answers and leaves: the trial's place and the generator's word after it.
+// What an accepted call answers, and the sampler after it.
 #[derive(Drop)]
+pub struct Accepted {
+    pub answer: Answer,
+    pub sampler: Sampler,
+}
+
+// What a call of one trial answers and leaves: its value with the generator's word after it, and the trial's place.
+#[derive(Clone, Copy)]
 pub struct Serving {
-    pub number: u64,
-    pub value: ParamValue,
-    pub drawn: u64,
+    pub draw: Draw<ParamValue>,
     pub place: Place,
-    pub next: u64,
 }

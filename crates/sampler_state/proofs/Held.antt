@@ -32,16 +32,16 @@ pub record Own (ps : List (Option Place)) (t : ℕ) : Type 0 where
   pub held : T (holds t (held_by ps t))
   pub spot : spot_for ps t ≡ trial_place ps t
 
-pub record NoPlace (ps : List (Option Place)) (t : ℕ) : Type 0 where
+pub record Absent (ps : List (Option Place)) (t : ℕ) : Type 0 where
   pub none : trial_place ps t ≡ 32
   pub empty : held_by ps t ≡ empty_place
   pub spot : spot_for ps t ≡ free_place ps
 
-pub own-or-none : (ps : List (Option Place)) → length ps ≡ 32 → (t : ℕ) → Own ps t ⊎ NoPlace ps t
+pub own-or-none : (ps : List (Option Place)) → length ps ≡ 32 → (t : ℕ) → Own ps t ⊎ Absent ps t
 unfolding spot_for
 own-or-none ps n t = go (ltb (trial_place ps t) 32) refl
   where
-    go : (b : Bool) → ltb (trial_place ps t) 32 ≡ b → Own ps t ⊎ NoPlace ps t
+    go : (b : Bool) → ltb (trial_place ps t) 32 ≡ b → Own ps t ⊎ Absent ps t
     go true e =
         let l = ltb-true (trial_place ps t) 32 e in
         inl (record { below = l; held = found-holds ps t l; spot = rw e })
@@ -50,12 +50,12 @@ own-or-none ps n t = go (ltb (trial_place ps t) 32) refl
         let m : trial_place ps t ≤ 32 = unfold trial_place in place-most 32 (λ j. holds t (place_at ps j)) in
         inr (record { none = omega arith; empty = get_or-eq_default ps empty_place (rw n l); spot = rw e })
 
--- what is found for a trial is free or its own
-pub held-own : (ps : List (Option Place)) → length ps ≡ 32 → (t : ℕ) → T (taken (held_by ps t)) → T (holds t (held_by ps t))
-held-own ps n t h = elim (own-or-none ps n t) [ inl o ↦ o.held | inr o ↦ absurd (subst (λ (p : Option Place). T (taken p)) o.empty h) ]
+-- what is found for a trial is its own
+pub held-own : (ps : List (Option Place)) → length ps ≡ 32 → (t : ℕ) (q : Place) → held_by ps t ≡ Some q → q.trial ≡ t
+held-own ps n t q e = elim (own-or-none ps n t) [ inl o ↦ eqb→eq q.trial t (subst (λ (p : Option Place). T (holds t p)) e o.held) | inr o ↦ absurd (let z = sym o.empty ∙ e in cc) ]
 
 -- a trial's place is taken
-holds-taken : (t : ℕ) (p : Option Place) → T (holds t p) → taken p ≡ true
+pub holds-taken : (t : ℕ) (p : Option Place) → T (holds t p) → taken p ≡ true
 holds-taken t (Some p) h = refl
 holds-taken t None h = absurd h
 

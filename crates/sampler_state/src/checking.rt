@@ -114,10 +114,10 @@ fn start_ok(s: &Sampler) -> bool
 
 // Whether a sampler is well-formed.
 #[tactic(auto, using(crate::proofs::Judged::dimensions_few, crate::proofs::Judged::sampler_places), unfolding(crate::specs::State::sampler_ok))]
-pub fn sampler_ok(s: Sampler) -> bool
-    ensures { result ≡ sampler_ok s }
+pub fn sampler_ok(s: &Sampler) -> bool
+    ensures { result ≡ sampler_ok s.now }
 {
-    if !start_ok(&s) || !dimensions::dimensions_ok(s.dimensions, s.n_dims) {
+    if !start_ok(s) || !dimensions::dimensions_ok(s.dimensions, s.n_dims) {
         return false;
     }
     let judge = Judge {
