@@ -56,7 +56,10 @@ fn made(s: Sampler, call: Call) -> Sampled {
 fn told(answer: Result<Answer, Refusal>) -> [u64; 4] {
     match answer {
         Ok(Answer { value, drawn }) => {
-            let (kind, word) = value.map_or((0, 0), |v| (distribution::kind(v), distribution::word(v)));
+            let (kind, word) = value.map_or(
+                (0, 0),
+                |v| (distribution::kind(v), distribution::word(v)),
+            );
             [0, kind, word, drawn]
         }
         Err(refusal) => [refusal.number(), 0, refusal.number(), 0],
