@@ -60,7 +60,7 @@ impl Output {
                 self.word(rt, 0);
                 self.words(rt, &results[..written.words]);
             }
-            Err(Failure::Refused(number)) => self.word(rt, number),
+            Err(Failure::Refused(refusal)) => self.word(rt, refusal.number()),
             Err(Failure::Unreadable) => self.put(rt, b"?"),
         }
         self.put(rt, b"\n");

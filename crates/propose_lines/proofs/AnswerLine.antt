@@ -19,9 +19,9 @@ next p r s at e n =
     let d : drop (at + 17) (p ++ r) ≡ drop 17 r = ap (λ (k : ℕ). drop (k + 17) (p ++ r)) (sym e) ∙ drop-append-add p r 17 in
     rw (take_at p r at e, take_all 17 s (omega arith), d)
 
-pub four-words : (z : List ℕ) (a b c d : ℕ) → length z ≡ 68
+pub four_words : (z : List ℕ) (a b c d : ℕ) → length z ≡ 68
     → paste (paste (paste (paste z 0 (printed a 32) 17) 17 (printed b 32) 17) 34 (printed c 32) 17) 51 (printed d 10) 17 ≡ printed a 32 ++ printed b 32 ++ printed c 32 ++ printed d 10
-four-words z a b c d e =
+four_words z a b c d e =
     let A = printed a 32 in
     let B = printed b 32 in
     let C = printed c 32 in

@@ -7,13 +7,13 @@ use lib.Seq.{get_or-take}
 use Rattle.arith.proofs.Lists.{grown-length, grown-read}
 use Rattle.propose_lines.specs.Lines.{word_at, word_of, words_in}
 
-pub words-length : (k : ℕ) (line : List ℕ) → length (words_in k line) ≡ k
+pub words_length : (k : ℕ) (line : List ℕ) → length (words_in k line) ≡ k
 unfolding words_in
-words-length k line = grown-length _ k
+words_length k line = grown-length _ k
 
-pub words-at : (k : ℕ) (line : List ℕ) (i : ℕ) → i < k → get_or (words_in k line) i 0 ≡ word_of (word_at line i)
+pub words_at : (k : ℕ) (line : List ℕ) (i : ℕ) → i < k → get_or (words_in k line) i 0 ≡ word_of (word_at line i)
 unfolding words_in
-words-at k line i h = grown-read _ k i 0 h
+words_at k line i h = grown-read _ k i 0 h
 
 -- a word of an array that holds the words
 pub read_at : (k : ℕ) (after line : List ℕ) → take k after ≡ words_in k line → (i : ℕ) → i < k → get_or after i 0 ≡ get_or (words_in k line) i 0

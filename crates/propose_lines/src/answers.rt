@@ -8,8 +8,9 @@ fn put(line: &mut [u8; 68], at: usize, w: u64, end: u8)
     requires { at + 17 ≤ 68 }
     ensures { line.new ≡ paste line.old at (printed w end) 17 }
 {
-    line[at..at + 16].copy_from_slice(&word_text::print(w));
-    line[at + 16] = end;
+    let mut word = [end; 17];
+    word[..16].copy_from_slice(&word_text::print(w));
+    line[at..at + 17].copy_from_slice(&word);
 }
 
 // The line of an answer, its newline with it.

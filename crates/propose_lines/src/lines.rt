@@ -12,7 +12,7 @@ fn is_spaced(line: &[u8], k: usize) -> bool
 }
 
 // Reads the words that stand at every 17th byte into out, from `at` on.
-#[tactic(auto, unfolding(arith::specs::Lists::every))]
+#[tactic(auto, using(crate::proofs::Stored::storing), unfolding(arith::specs::Lists::every))]
 fn store_words(line: &[u8], k: usize, out: &mut [u64], at: usize) -> bool
     requires { (length line.now + 1 ≡ 17 * k) × (at + k ≤ length out.old) }
     ensures { WordsStored line.now k at out.old out.new result }
