@@ -103,6 +103,7 @@ fn older(n: usize, h: &[u64]) -> usize
 }
 
 // How many recent rows it has.
+#[tactic(auto, using(crate::proofs::Recent::older_inside))]
 fn recent_rows(n: usize, h: &[u64]) -> usize
     requires { n ≤ 20 }
     ensures { result ≡ row_count n (recent_of n h.now) }
@@ -112,8 +113,10 @@ fn recent_rows(n: usize, h: &[u64]) -> usize
 }
 
 // Both, for slots up to 20; more are refused, and have none.
+#[tactic(auto, using(crate::proofs::Recent::older_inside), unfolding(crate::specs::Recent::recent_part))]
 pub fn recent_part(n: usize, h: &[u64]) -> RecentRows
-    ensures { result ≡ recent_part n h.now }
+    ensures is { result ≡ recent_part n h.now }
+    ensures inside { result.start ≤ length h.now }
 {
     if n > 20 {
         return RecentRows { start: 0, rows: 0 };
@@ -124,6 +127,7 @@ pub fn recent_part(n: usize, h: &[u64]) -> RecentRows
 }
 
 // A history of that many slots, 1 to 20: whole rows, and then the tests of its recent rows.
+#[tactic(auto, using(crate::proofs::Recent::older_inside))]
 pub fn check(slots: usize, h: &[u64]) -> Result<(), Refusal>
     ensures { result ≡ check_of slots h.now }
 {

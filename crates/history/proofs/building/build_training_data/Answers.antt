@@ -1,6 +1,5 @@
 -- `history::building::build_training_data` meets its contract. Assumes nothing.
 use mathlib.Core.Path.{◌≡◌, refl, sym, ap, ◌∙◌}
-use native.Mathlib.Omega.{arith}
 use Rattle.std.specs.Prelude.{None, Ok}
 use Rattle.std.proofs.lemmas.Result.{err_from_is_err_and}
 use Rattle.arith.specs.Lists.{filled}
@@ -31,16 +30,7 @@ returns-in_err-mapping c =
 known : (c : After-recent_part-recent) → let a = c.args in Recent a.slots a.dims.count a.h.now c.recent_part-recent.result
 known c =
     let a = c.args in
-    recent a.slots a.dims.list a.dims.count a.h.now c.recent_part-recent.result (accepted c).0 c.recent_part-recent.ensures
-
-pub offset_bounds-h-recent : goal.offset_bounds-h-recent
-offset_bounds-h-recent c = let l = (known (goal.at.offset_bounds-h-recent c).After-recent_part-recent).inside in omega arith
-
-pub slice_bounds-rows-count : goal.slice_bounds-rows-count
-slice_bounds-rows-count c = let l = (known (goal.at.slice_bounds-rows-count c).After-recent_part-recent).inside in omega arith
-
-pub slice_bounds-rows-start : goal.slice_bounds-rows-start
-slice_bounds-rows-start c = let l = (known (goal.at.slice_bounds-rows-start c).After-recent_part-recent).inside in omega arith
+    recent a.slots a.dims.list a.dims.count a.h.now c.recent_part-recent.result (accepted c).0 c.recent_part-recent.ensures.is
 
 pub invariant_of-rows : goal.invariant_of-rows
 invariant_of-rows c =

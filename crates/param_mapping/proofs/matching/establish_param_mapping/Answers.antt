@@ -2,7 +2,6 @@
 use Prim.Native.Nat.{ℕ}
 use mathlib.Core.Path.{◌≡◌, sym, ap, ◌∙◌}
 use mathlib.Core.List.{List}
-use native.Mathlib.Omega.{arith}
 use Rattle.std.proofs.lemmas.Result.{err_from_is_err_and}
 use Rattle.param_mapping.proofs.Opened.{Recent, recent}
 use Rattle.history_rows.proofs.Recent.{recent-part, recent-whole}
@@ -23,16 +22,7 @@ returns-in_err-check c =
 known : (c : After-recent_part-recent) → let a = c.args in Recent a.slots a.dims.count a.h.now c.recent_part-recent.result
 known c =
     let a = c.args in
-    recent a.slots a.dims.list a.dims.count a.h.now c.recent_part-recent.result (sym c.check.ensures ∙ c.in_ok-check.was) c.recent_part-recent.ensures
-
-pub offset_bounds-h-start : goal.offset_bounds-h-start
-offset_bounds-h-start c = let l = (known (goal.at.offset_bounds-h-start c).After-recent_part-recent).inside in omega arith
-
-pub slice_bounds-recent_mapping-count : goal.slice_bounds-recent_mapping-count
-slice_bounds-recent_mapping-count c = let l = (known (goal.at.slice_bounds-recent_mapping-count c).After-recent_part-recent).inside in omega arith
-
-pub slice_bounds-recent_mapping-start : goal.slice_bounds-recent_mapping-start
-slice_bounds-recent_mapping-start c = let l = (known (goal.at.slice_bounds-recent_mapping-start c).After-recent_part-recent).inside in omega arith
+    recent a.slots a.dims.list a.dims.count a.h.now c.recent_part-recent.result (sym c.check.ensures ∙ c.in_ok-check.was) c.recent_part-recent.ensures.is
 
 pub recent_mapping-ids-requires : goal.recent_mapping-ids-requires
 recent_mapping-ids-requires c =
