@@ -9,6 +9,7 @@ use search::Candidate;
 // The data of a fit: its rows of d columns, one after the other, and their values.
 #[derive(Clone, Copy)]
 struct FitData<'a> {
+    // Kept: a width; the rows stand in one slice, and know how many they are.
     d: usize,
     noise_var: f64,
     rows: &'a [u64],
