@@ -16,5 +16,5 @@ unfolding Along
 run-best s [] n = tt
 run-best s (c ∷ cs) n = (best s c n, run-best (call_of s c).sampler cs (places-kept 32 s c n))
 
-pub equal-runs : EqualRuns
-equal-runs s t cs ds = (λ a. runs_same s (fresh_of s) refl a, run-best (fresh_of s) cs refl, run-best (fresh_of s) ds refl)
+pub equal_runs : EqualRuns
+equal_runs s t cs ds = (λ a. runs_same s (fresh_of s) refl a, run-best (fresh_of s) cs refl, run-best (fresh_of s) ds refl)

@@ -151,8 +151,8 @@ module _ (s : Sampler) (g : Well s) (h : List ℕ) (r : check_of s.settings.slot
   fit_of_lem : T (fit_made s h) → T (fit_number (number_of (fit_answer s h)))
   fit_of_lem m = fit s.settings s.dimensions s.n_dims s.word (ready s g) (served_history s h) (served-accepted s h g.ok.settings r) (search parts)
 
-pub nothing-refused : NothingRefused
-nothing-refused = record {
+pub nothing_refused : NothingRefused
+nothing_refused = record {
   fit = λ s h t o r. fit_of_lem s (well s t o) h r;
   values = λ s h t o r. values_of s (well s t o) h r;
   random = λ s d f x t o. let r = random-ranged s.word d (ready s (well s t o)).nonzero f x in (r.draw, r.is, stored_ok_lem d r.draw.value r.range);

@@ -107,9 +107,9 @@ unfolding sample_of served_of active_of
 ninth s d r trial h ok e n c p =
     rw (is_true (sampler_ok s) ok, e, n, taken-active s ok 0 (omega arith) (passed (all-taken s.places c 0 (omega arith))), full-no-spot s.places trial c p)
 
-pub places-counted : PlacesCounted
+pub places_counted : PlacesCounted
 unfolding new_trial
-places-counted = record {
+places_counted = record {
   sampled = λ s d trial h t.
       sampled s t.places d trial h
       ∙ ap (λ (b : Bool). taken_count s.places + cond b 1 0) (sym (and_assoc (is_ok (call_of s (asks d trial h)).answer) (past_discovery s trial) (eqb (trial_place s.places trial) 32)));

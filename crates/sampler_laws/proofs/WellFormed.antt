@@ -1,4 +1,4 @@
--- A sampler as made is well-formed, and so is one after a call on a well-formed one: no call of a run meets 11. Assumes nothing.
+-- A sampler as made is well_formed, and so is one after a call on a well_formed one: no call of a run meets 11. Assumes nothing.
 use Prim.Native.Nat.{ℕ, ◌^◌, ◌<◌}
 use native.Mathlib.Nat.{not-suc-le-zero}
 use native.Mathlib.Omega.{arith}
@@ -52,7 +52,7 @@ put-well s g a i v l ok z once =
 
 -- ---- a sample call
 
--- an answer with a well-formed sampler that is not 11
+-- an answer with a well_formed sampler that is not 11
 pub record Good (r : Sampled) : Type 0 where
   pub well : Well r.sampler
   pub answered : r.answer ≡ Err OutOfDomain → ⊥
@@ -147,8 +147,8 @@ unfolding Along
 along s [] g = tt
 along s (c ∷ cs) g = let h = good s c g in (h.answered, along (call_of s c).sampler cs h.well)
 
-pub well-formed : WellFormed
-well-formed = record {
+pub well_formed : WellFormed
+well_formed = record {
   fresh = λ s l o. let g = fresh s l o in (g.typed, parts-ok (fresh_of s) g.ok);
   call = λ s c t o. let g = (good s c (well s t o)).well in (g.typed, parts-ok (call_of s c).sampler g.ok);
   run = λ s l o cs. along (fresh_of s) cs (fresh s l o);

@@ -83,5 +83,5 @@ unfolding words_taken new_trial has_model
 counts s (asks d trial h) a t e = rw (ap is_ok e) (sampled s t d trial h a e)
 counts s (closes trial) a t e = by-close s trial (Draws 0) (λ _. refused s 0 OutOfDomain) (refused s 0 UnknownTrial) (λ _. accepted s 0 (freed_of s trial) refl) a e
 
-pub words-drawn : WordsDrawn
-words-drawn = record { moves = λ s c. (call s c).moves; refused = λ s c. (call s c).refused; counts = counts }
+pub words_drawn : WordsDrawn
+words_drawn = record { moves = λ s c. (call s c).moves; refused = λ s c. (call s c).refused; counts = counts }

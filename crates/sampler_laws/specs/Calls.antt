@@ -21,14 +21,6 @@ use Rattle.sampler_laws.specs.declared.Serving.{Serving}
 use Rattle.sampler_state.specs.declared.Sampler.{Sampler}
 use Rattle.sampler_state.specs.State.{empty_place, trial_place, held_by, spot_for, stored_at, sampler_ok}
 
--- "A refused call returns its number, draws no word and changes nothing it was lent."
-abbrev pub refused_of : Sampler → Refusal → Sampled
-refused_of s cause = record { answer = Err cause; sampler = s }
-
-abbrev pub answered_of : Sampler → Result Accepted Refusal → Sampled
-answered_of s (Ok a) = record { answer = Ok a.answer; sampler = a.sampler }
-answered_of s (Err cause) = refused_of s cause
-
 -- ---- a sampler with a field or two changed
 
 abbrev pub with_word : Sampler → ℕ → Sampler
@@ -44,6 +36,16 @@ activated s = record { settings = s.settings; word = s.word; active = true; disc
 -- one more dimension, for the discovery trial
 abbrev pub with_dimension : Sampler → ℕ → Distribution → Sampler
 with_dimension s trial d = record { settings = s.settings; word = s.word; active = s.active; discovery_trial_id = trial; dimensions = set s.dimensions s.n_dims (dimension_of d); n_dims = s.n_dims + 1; places = s.places }
+
+-- ---- what a call answers
+
+-- "A refused call returns its number, draws no word and changes nothing it was lent."
+abbrev pub refused_of : Sampler → Refusal → Sampled
+refused_of s cause = record { answer = Err cause; sampler = s }
+
+abbrev pub answered_of : Sampler → Result Accepted Refusal → Sampled
+answered_of s (Ok a) = record { answer = Ok a.answer; sampler = a.sampler }
+answered_of s (Err cause) = refused_of s cause
 
 -- a value, and the sampler with the generator's word after it
 abbrev pub drawn_of : Sampler → Draw ParamValue → Accepted

@@ -7,21 +7,25 @@ pub fn equal_runs()
 {}
 
 // An answer says how often the generator moved, and document 01's counts say how often that is.
+#[tactic(auto, using(crate::proofs::WordCounts::words_drawn))]
 pub fn words_drawn()
     ensures { WordsDrawn }
 {}
 
 // A sampler as made is well-formed, and so is one that a call hands back: no call of a run meets 11.
+#[tactic(auto, using(crate::proofs::WellFormed::well_formed))]
 pub fn well_formed()
     ensures { WellFormed }
 {}
 
 // Inside a call with a history that is not refused, a fit is refused only with 12 or 13, and nothing else is.
+#[tactic(auto, using(crate::proofs::Nothing::nothing_refused))]
 pub fn nothing_refused()
     ensures { NothingRefused }
 {}
 
 // An accepted new trial takes one place more, an accepted close one less; 9 says that 32 are taken and the trial has none.
+#[tactic(auto, using(crate::proofs::PlaceCounts::places_counted))]
 pub fn places_counted()
     ensures { PlacesCounted }
 {}
