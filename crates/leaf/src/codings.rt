@@ -12,7 +12,7 @@ pub(crate) fn distribution(words: &[u64]) -> Result<Distribution, Failure> {
 }
 
 // The kind and the word of a value.
-fn kind_and_word(v: ParamValue) -> [u64; 2] {
+pub(crate) fn kind_and_word(v: ParamValue) -> [u64; 2] {
     [distribution::kind(v), distribution::word(v)]
 }
 

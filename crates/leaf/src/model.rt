@@ -10,6 +10,7 @@ use search::Candidate;
 // Kept: d beside the rows, since a fit of no rows has columns too.
 #[derive(Clone, Copy)]
 struct FitData<'a> {
+    // Kept: a width; the rows stand in one slice, and know how many they are.
     d: usize,
     noise_var: f64,
     rows: &'a [u64],

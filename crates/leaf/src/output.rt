@@ -8,6 +8,7 @@ use crate::reply::{Failure, Reply, Results};
 #[derive(Drop)]
 pub struct Output {
     buffer: [u8; 65536],
+    // Kept: fixed memory (document 01): an array, and how much of it is filled.
     len: usize,
     ghost within: { len ≤ 65536 },
 }

@@ -3,6 +3,7 @@
 // leaf, whatever its settings are.
 ghost use Rattle.std.specs.Prelude.{◌+◌, ◌*◌, ◌≤◌, length, IfSome};
 
+use crate::codings;
 use crate::reply::{Failure, Reply, Results, Written};
 use refusal::Refusal;
 use sampler_laws::{Answer, Sampled};
@@ -51,15 +52,12 @@ fn made(s: Sampler, call: Call) -> Sampled {
     }
 }
 
-// Four words for an answer: its number, its value's kind and word, and how many words it drew. A close has kind and word
-// 0, a refusal kind 0 and its number.
+// Four words for an answer: its number, its value's kind and word, and how many words it drew. A close has kind and
+// word 0, a refusal kind 0 and its number.
 fn told(answer: Result<Answer, Refusal>) -> [u64; 4] {
     match answer {
         Ok(Answer { value, drawn }) => {
-            let (kind, word) = value.map_or(
-                (0, 0),
-                |v| (distribution::kind(v), distribution::word(v)),
-            );
+            let [kind, word] = value.map_or([0, 0], |v| codings::kind_and_word(v));
             [0, kind, word, drawn]
         }
         Err(refusal) => [refusal.number(), 0, refusal.number(), 0],

@@ -42,6 +42,7 @@ pub(crate) fn asked(room: usize, left: u64) -> usize
 #[derive(Drop)]
 pub(crate) struct Input {
     buffer: [u8; 65536],
+    // Kept: fixed memory (document 01): an array, and how much of it is filled.
     have: usize,
     longest: usize,
     pub(crate) left: u64,

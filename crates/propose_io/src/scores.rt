@@ -18,7 +18,7 @@ fn write_words(rt: HostRuntime, words: &[u64]) -> ControlFlow<()>
     let mut line = [b' '; 408];
     for (i, word) in words.iter().enumerate() {
         let start = 17 * i;
-        line[start..start + 16].copy_from_slice(&word_text::print(*word));
+        line[start..start + 17].copy_from_slice(&propose_lines::printed(*word, b' '));
     }
     let end = 17 * words.len();
     line[end - 1] = b'\n';
@@ -50,6 +50,7 @@ fn write_points(
     rt: HostRuntime,
     trial: u64,
     m: &Model,
+    // Kept: the search and its draws take the number of columns.
     d: usize,
     candidates: u64,
     word: u64,

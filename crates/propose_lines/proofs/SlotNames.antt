@@ -27,3 +27,6 @@ pub none_left : (rest : List ℕ) → same_bytes rest [] ≡ eqb (length rest) 0
 unfolding same_bytes
 none_left [] = refl
 none_left (x ∷ xs) = sym (ne_eqb (suc (length xs)) 0 (λ e. omega arith))
+
+-- what a loop over the slots of a line uses
+pub ruleset slot_by_slot = (next_slot, none_left)

@@ -25,7 +25,7 @@ pub fn is_calls(line: &[u8]) -> bool
 }
 
 // Whether these are the names of n slots.
-#[tactic(auto, using(crate::proofs::SlotNames::next_slot, crate::proofs::SlotNames::none_left), unfolding(crate::specs::Names::slots_names))]
+#[tactic(auto, using(crate::proofs::SlotNames::slot_by_slot), unfolding(crate::specs::Names::slots_names))]
 fn is_slots(line: &[u8], n: u64) -> bool
     ensures { result ≡ same_bytes line.now (slots_names n) }
 {

@@ -1,14 +1,13 @@
 -- What is written for a text, whatever text it is. Assumes nothing.
-use Prim.Native.Nat.{ℕ, zero, suc, ◌+◌, ◌^◌, ◌≤◌, ◌<◌}
+use Prim.Native.Nat.{ℕ, zero, suc, ◌+◌, ◌≤◌, ◌<◌}
 use mathlib.Core.Path.{◌≡◌, refl, sym, ap, ◌∙◌}
-use mathlib.Core.Bool.{Bool, true, false, not, ◌&&◌, ◌||◌}
+use mathlib.Core.Bool.{Bool, true, false, ◌&&◌, ◌||◌}
 use mathlib.Core.List.{List, [], ◌∷◌, ◌++◌, append_assoc, append-nil}
 use native.Mathlib.Omega.{arith}
 use borrow.Author.Tests.{le-leb, leb-true, ne_eqb}
-use lib.Dec.{eqb, leb}
+use lib.Dec.{leb}
 use Rattle.std.proofs.lemmas.Bool.{or_parts}
 use lib.ListN.{length, length-append}
-use lib.Ieee.{binary64, of_bits, le}
 use Rattle.refusal.specs.declared.Refusal.{Refusal}
 use Rattle.settings.specs.declared.Settings.{Settings}
 use Rattle.settings.specs.Settings.{settings_ok}
@@ -33,12 +32,7 @@ line14 = answer_line 0 0 14 0
 
 few-slots : (s : Settings) → settings_ok s ≡ true → s.slots ≤ 20
 unfolding settings_ok
-few-slots s h =
-    leb-true s.slots 20
-    (both
-    (leb s.n_startup_trials (2 ^ 32) && leb s.n_candidates 10000 && le (of_bits binary64 0) s.noise_variance && le s.noise_variance (of_bits binary64 0x412e848000000000)
-    && not (eqb s.seed 0) && leb 1 s.slots)
-    (leb s.slots 20) h).1
+few-slots s h = leb-true s.slots 20 (both _ _ h).1
 
 -- ---- the text of a document, and what follows it
 

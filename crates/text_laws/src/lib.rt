@@ -1,4 +1,5 @@
-// What a text of `propose` is and what is answered: the definitions, the types that they name, and the laws of every text.
+// What a text of `propose` is and what is answered: the definitions, the types that they name, and the laws of every
+// text.
 #![tactic(auto)]
 
 pub mod laws;
@@ -22,10 +23,12 @@ pub enum Stage {
 pub struct Reader {
     pub stage: Stage,
     pub sampler: Sampler,
+    // Kept: fixed memory (document 01), so that the array of 8,192 words is lent from line to line.
     pub count: usize,
 }
 
-// What a line was: names, the settings, a row, the names that begin the calls, a call, a refusal that ends the run, or nothing more of a text.
+// What a line was: names, the settings, a row, the names that begin the calls, a call, a refusal that ends the run, or
+// nothing more of a text.
 #[derive(Clone, Copy, Debug, PartialEq, Eq)]
 pub enum Event {
     Names,

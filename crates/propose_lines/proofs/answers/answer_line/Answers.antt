@@ -7,4 +7,4 @@ use Rattle.propose_lines.proofs.answers.answer_line.Goals as goal
 
 pub returns : goal.returns
 unfolding answer_line
-returns c = rw (c.put-4.ensures, c.put-3.ensures, c.put-2.ensures, c.put.ensures) (four_words (replicate 68 0) _ _ _ _ refl)
+returns c = rw (c.put_printed-4.ensures, c.put_printed-3.ensures, c.put_printed-2.ensures, c.put_printed.ensures) (four_words (replicate 68 0) _ _ _ _ refl)
