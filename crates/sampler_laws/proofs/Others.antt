@@ -17,6 +17,7 @@ use Rattle.exponential.specs.Exp.{exp_of}
 use Rattle.logarithm.specs.Ln.{normal, ln_of}
 use Rattle.rng_util.specs.declared.Draw.{Draw}
 use Rattle.rng_util.specs.Draws.{read_by, word_draw_of, unit_draw_of, whole_draw_of, range_ok}
+use Rattle.distribution.proofs.Facts.{by-step}
 use Rattle.distribution.specs.declared.Distribution.{Distribution}
 use Rattle.distribution.specs.declared.ParamValue.{ParamValue}
 use Rattle.distribution.specs.Shape.{shape_of, continuous_of}
@@ -119,8 +120,8 @@ unfolding sample_random_of random_of float_random int_random log_float_random st
 random-other w d = by-test Other (shape_of d) _ _ (λ _. random d) (λ _. (domain _))
   where
     random : (d : Distribution) → Other (random_of w d)
-    random (Distribution.Float d) = by-test Other d.log_scale _ _ (λ _. log-drawn w (Distribution.Float d) _) (λ _. by-test Other d.stepped _ _ (λ _. read-other _ _ (whole-other w _ _)) (λ _. read-other _ _ (unit-other w)))
-    random (Distribution.Int d) = by-test Other d.log_scale _ _ (λ _. log-drawn w (Distribution.Int d) _) (λ _. by-test Other d.stepped _ _ (λ _. read-other _ _ (whole-other w _ _)) (λ _. read-other _ _ (whole-other w _ _)))
+    random (Distribution.Float d) = by-test Other d.log_scale _ _ (λ _. log-drawn w (Distribution.Float d) _) (λ _. by-step Other _ d.step _ (λ _ _. read-other _ _ (whole-other w _ _)) (λ _. read-other _ _ (unit-other w)))
+    random (Distribution.Int d) = by-test Other d.log_scale _ _ (λ _. log-drawn w (Distribution.Int d) _) (λ _. by-step Other _ d.step _ (λ _ _. read-other _ _ (whole-other w _ _)) (λ _. read-other _ _ (whole-other w _ _)))
     random (Distribution.Categorical d) = read-other _ _ (whole-other w _ _)
 
 -- ---- the values of a new trial
