@@ -4,11 +4,11 @@ use mathlib.Core.Bool.{Bool, true, false, ◌&&◌, ◌||◌, cond}
 use Prim.Native.Nat.{ℕ}
 use lib.Dec.{leb, ltb}
 use lib.IntN.{ℤ, pos, negsuc}
-use lib.Signed.{le_z, lt_z}
+use lib.Signed.{le_z}
 use lib.Ieee.{eq, lt, le}
 use Rattle.std.specs.Prelude.{Option, Some, None, IsTrue, MatchOption}
 use Rattle.std.proofs.Common.{rules, Less, Equal, Greater}
-use Rattle.std.specs.Ordering.{is_le, is_lt, is_some_and, int_cmp, float_partial_cmp, partial_le, partial_lt}
+use Rattle.std.specs.Ordering.{is_le, is_some_and, int_cmp, float_partial_cmp, partial_le}
 use Rattle.distribution.specs.declared.NumberDistribution.{NumberDistribution}
 use Rattle.std.specs.Option.{option_map_or}
 use Rattle.distribution.specs.Shape.{ends}
@@ -50,22 +50,3 @@ module _ {A : Type 0} (o below : A → A → Bool) (e : o ≡ below) (least most
 
   pub unshaped : t ≡ false → t ≡ ends below least most first d && option_map_or test d.step true
   unshaped f = f ∙ ap (λ (b : Bool). b && option_map_or test d.step true) (sym f) ∙ shape
-
--- ---- less
-
-pub floats_lt : partial_lt float_partial_cmp ≡ lt
-floats_lt i x y = go (lt x y) (eq x y) (lt y x) i
-  where
-    go : (a e b : Bool) → is_some_and is_lt (cond a (Some Less) (cond e (Some Equal) (cond b (Some Greater) None))) ≡ a
-    go true e b = refl
-    go false true b = refl
-    go false false true = refl
-    go false false false = refl
-
-pub ints_lt : partial_lt (λ x y. Some (int_cmp x y)) ≡ lt_z
-ints_lt i x y = go (lt_z x y) (lt_z y x) i
-  where
-    go : (a b : Bool) → is_lt (cond a Less (cond b Greater Equal)) ≡ a
-    go true b = refl
-    go false true = refl
-    go false false = refl
