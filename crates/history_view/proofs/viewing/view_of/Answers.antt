@@ -1,5 +1,6 @@
 -- `history_view::viewing::view_of` meets its contract. Assumes nothing.
 use Rattle.std.proofs.lemmas.Result.{err_from_is_err_and}
+use Prim.Native.Nat.{◌≤◌}
 use mathlib.Core.Path.{sym, ◌∙◌}
 use native.Mathlib.Omega.{arith}
 use Rattle.history_rows.specs.Rows.{row_count}
@@ -7,6 +8,7 @@ use Rattle.history_view.specs.View.{view_of}
 use Rattle.history.proofs.FromArray.{training-accepted}
 use Rattle.param_mapping.proofs.Opened.{opened}
 use Rattle.history_view.proofs.viewing.view_of.Goals as goal
+use Rattle.history_view.proofs.viewing.view_of.Goals.{In_ok-training}
 
 pub returns-in_err-training : goal.returns-in_err-training
 unfolding view_of
@@ -14,19 +16,16 @@ returns-in_err-training c =
     let p = err_from_is_err_and c.from_residual.result c.from_residual.ensures.1 in
     rw (p.1, p.2, sym c.build_training_data.ensures, c.in_err-training.was)
 
-pub overflow_mul-rows : goal.overflow_mul-rows
-overflow_mul-rows c =
+few : (c : In_ok-training) → c.args.slots ≤ 20
+few c =
     let a = c.args in
-    let t = training-accepted a.slots a.dims.list a.dims.count a.h.now c.in_ok-training.training (sym c.build_training_data.ensures ∙ c.in_ok-training.was) in
-    let l = (opened a.slots a.dims.list a.dims.count a.h.now t.0).0 in
-    omega arith
+    (opened a.slots a.dims.list a.dims.count a.h.now (training-accepted a.slots a.dims.list a.dims.count a.h.now c.in_ok-training.training (sym c.build_training_data.ensures ∙ c.in_ok-training.was)).0).0
+
+pub overflow_mul-rows : goal.overflow_mul-rows
+overflow_mul-rows c = let l = few (goal.at.overflow_mul-rows c).In_ok-training in omega arith
 
 pub overflow_add-rows : goal.overflow_add-rows
-overflow_add-rows c =
-    let a = c.args in
-    let t = training-accepted a.slots a.dims.list a.dims.count a.h.now c.in_ok-training.training (sym c.build_training_data.ensures ∙ c.in_ok-training.was) in
-    let l = (opened a.slots a.dims.list a.dims.count a.h.now t.0).0 in
-    omega arith
+overflow_add-rows c = let l = few (goal.at.overflow_add-rows c).In_ok-training in omega arith
 
 pub returns : goal.returns
 unfolding row_count view_of
