@@ -1,13 +1,13 @@
 -- Twice a value that fits is exact, and half of its whole part, with one added, is the nearest whole number. Assumes nothing.
-use Rattle.std.proofs.Common.{◌≡◌, ℕ, zero, suc, ◌+◌, ◌-◌, ◌*◌, ◌/◌, ◌%◌, ◌^◌, ◌<◌, ◌≤◌, min, Bool, true, false, not, ◌&&◌, T, eqb, ltb, leb, ℤ, pos, negsuc, sym, refl, ap, ◌∙◌, subst, le_trans, le_of_eq, le_of_suc-le-suc, lt_of_le_of_lt, mul-le-mul_right, zero-lt-suc, mul_assoc, suc-mul, mul_comm, div-lt_iff_lt-mul, add-mul, mul-pos, lt_of_not-le, zero-mul, mul-one, mul_right_comm, not-le_of_lt, le_of_mul-le-mul_right, mul_left_comm, arith, lit<, ltb→lt, leb→le, nltb→le, pow_pos, pow-add}
-use native.Mathlib.Nat.{pow-succ', div-div-eq-div-mul, add-div_right, zero-div}
+use Rattle.std.proofs.Common.{◌≡◌, ℕ, zero, suc, ◌+◌, ◌-◌, ◌*◌, ◌/◌, ◌%◌, ◌^◌, ◌<◌, ◌≤◌, min, Bool, true, false, ◌&&◌, T, eqb, ltb, leb, ℤ, pos, negsuc, sym, refl, ap, ◌∙◌, subst, le_trans, le_of_eq, le_of_suc-le-suc, lt_of_le_of_lt, mul-le-mul_right, zero-lt-suc, mul_assoc, suc-mul, mul_comm, div-lt_iff_lt-mul, add-mul, mul-pos, lt_of_not-le, zero-mul, mul-one, mul_right_comm, not-le_of_lt, le_of_mul-le-mul_right, mul_left_comm, arith, lit<, ltb→lt, lt→ltb, leb→le, pow_pos, pow-add}
+use native.Mathlib.Nat.{pow-succ', div-div-eq-div-mul, add-div_right}
 use lib.Pow.{pow-lt}
-use lib.Ieee.{Float, nan, inf, fin, Format, binary64, prec, emax, low, up, down, round, sum, add, neg, lt, le, fits, to_unsigned, of_bits, is_nan}
+use lib.Ieee.{Float, nan, inf, fin, Format, binary64, prec, emax, low, up, down, round, sum, add, lt, le, fits, to_unsigned}
 use lib.Ieee.Fits.{down_pos, and_l, and_r}
 use lib.Ieee.Exact.{HasValue, round_exact}
 use lib.Ieee.Nearest.{div_same}
-use Rattle.arith.specs.Bounds.{Within}
-use Rattle.arith.proofs.Within.{cross, add-in, upper, neg-within}
+use Rattle.arith.specs.Bounds.{abs, Within}
+use Rattle.arith.proofs.Within.{cross, add-in}
 use Rattle.arith.proofs.Order as order
 use Rattle.arith.specs.Rounding.{nearest_of}
 
@@ -105,39 +105,18 @@ floor-small (fin s m e) w =
     more : (d : ℕ) → 0 < d → 1 * 2 ^ 61 * d < suc (2 ^ 61) * d
     more d D = omega arith
 
-pub cut-neg : (y : Float) → Within (fin false 1 (pos 61)) y → T (lt y (of_bits binary64 0)) → to_unsigned 64 (neg y) ≡ floor_of y
-unfolding to_unsigned neg lt le of_bits
-cut-neg nan w h = absurd w
-cut-neg (inf s) w h = absurd w
-cut-neg (fin true m e) w h = cap (m * up e / down e) (floor-small (fin true m e) w)
-cut-neg (fin false m e) w h = let g = ltb→lt (m * up e * 1) (0 * 1 * down e) h in absurd (omega arith)
-
-pub cut-pos : (y : Float) → Within (fin false 1 (pos 61)) y → T (not (lt y (of_bits binary64 0))) → to_unsigned 64 y ≡ floor_of y
-unfolding to_unsigned lt le of_bits
-cut-pos nan w h = absurd w
-cut-pos (inf s) w h = absurd w
-cut-pos (fin false m e) w h = cap (m * up e / down e) (floor-small (fin false m e) w)
-cut-pos (fin true m e) w h =
-    let g = nltb→le 0 (m * up e * 1 + 0 * 1 * down e) h in
-    sym (ap (λ (x : ℕ). x / down e) (none (m * up e) (0 * 1 * down e) g) ∙ zero-div (down e))
-  where
-    none : (a b : ℕ) → a * 1 + b ≤ 0 → a ≡ 0
-    none a b g = omega arith
+pub cut : (y : Float) → Within (fin false 1 (pos 61)) y → to_unsigned 64 (abs y) ≡ floor_of y
+unfolding to_unsigned le
+cut nan w = absurd w
+cut (inf s) w = absurd w
+cut (fin s m e) w = cap (m * up e / down e) (floor-small (fin s m e) w)
 
 -- ---- what the cast asks
-pub range-neg : (y : Float) → Within (fin false 1 (pos 61)) y → T (lt y (of_bits binary64 0)) → T (lt (fin true 1 (pos 0)) (neg y)) × T (lt (neg y) (fin false 1 (pos 64)))
-unfolding of_bits lt neg
-range-neg y w h = (
-  order.lt-of-lt-of-le' (fin true 1 (pos 0)) (fin true 0 (pos 0)) (neg y) tt (order.neg-anti y (fin false 0 (pos 0)) (order.le_of_lt y (fin false 0 (pos 0)) h)),
-  order.lt_of_le_of_lt (neg y) (fin false 1 (pos 61)) (fin false 1 (pos 64)) (upper (fin false 1 (pos 61)) (neg y) (neg-within (fin false 1 (pos 61)) y w)) tt,
-)
-
-pub range-pos : (y : Float) → Within (fin false 1 (pos 61)) y → T (not (lt y (of_bits binary64 0))) → T (lt (fin true 1 (pos 0)) y) × T (lt y (fin false 1 (pos 64)))
-unfolding of_bits lt is_nan
-range-pos y w h = (
-  order.lt-of-lt-of-le' (fin true 1 (pos 0)) (fin false 0 (pos 0)) y tt (order.le_of_not_lt y (fin false 0 (pos 0)) (order.le-real y (fin false 1 (pos 61)) (upper (fin false 1 (pos 61)) y w)).0 tt h),
-  order.lt_of_le_of_lt y (fin false 1 (pos 61)) (fin false 1 (pos 64)) (upper (fin false 1 (pos 61)) y w) tt,
-)
+pub range : (y : Float) → Within (fin false 1 (pos 61)) y → T (lt (fin true 1 (pos 0)) (abs y)) × T (lt (abs y) (fin false 1 (pos 64)))
+unfolding lt le
+range nan w = absurd w
+range (inf s) w = absurd w
+range (fin s m e) w = (lt→ltb _ _ (let d = down_pos e in omega arith), order.lt_of_le_of_lt (fin false m e) (fin false 1 (pos 61)) (fin false 1 (pos 64)) w tt)
 
 pub twice-within : (t : Float) → Within (fin false 1 (pos 60)) t → Within (fin false 1 (pos 61)) (add binary64 t t)
 unfolding add le

@@ -148,32 +148,30 @@ bound nan = false
 bound (inf s) = false
 bound (fin s m e) = not s
 
+-- what holds of two sizes holds of two bounds
+pub sizes : (P : Float → Float → Type 0) → ((m n : ℕ) (e d : ℤ) → P (fin false m e) (fin false n d)) → (b c : Float) → T (bound b && bound c) → P b c
+sizes P h (fin false m e) (fin false n d) t = h m n e d
+sizes P h nan c t = elim t [ ]
+sizes P h (inf _) c t = elim t [ ]
+sizes P h (fin false m e) nan t = elim t [ ]
+sizes P h (fin false m e) (inf _) t = elim t [ ]
+sizes P h (fin false m e) (fin true n d) t = elim t [ ]
+sizes P h (fin true m e) c t = elim t [ ]
+
 pub mul_in : (f : Format) (b c d x y : Float) → T (bound b && bound c && le (mul f b c) d) → Within b x → Within c y → Within d (mul f x y)
-mul_in f (fin false b g) (fin false c h) d x y t p q = widen (mul f (fin false b g) (fin false c h)) d (mul f x y) t (mul-within f b c g h x y p q)
-mul_in f nan c d x y t p q = elim t [ ]
-mul_in f (inf _) c d x y t p q = elim t [ ]
-mul_in f (fin false b g) nan d x y t p q = elim t [ ]
-mul_in f (fin false b g) (inf _) d x y t p q = elim t [ ]
-mul_in f (fin false b g) (fin true c h) d x y t p q = elim t [ ]
-mul_in f (fin true b g) c d x y t p q = elim t [ ]
+mul_in f b c d x y t =
+    sizes (λ b c. T (le (mul f b c) d) → Within b x → Within c y → Within d (mul f x y)) (λ m n e g k p q. widen (mul f (fin false m e) (fin false n g)) d (mul f x y) k (mul-within f m n e g x y p q))
+    b c (and_l (bound b && bound c) (le (mul f b c) d) t) (and_r (bound b && bound c) (le (mul f b c) d) t)
 
 pub add-in : (f : Format) (b c d x y : Float) → T (bound b && bound c && le (add f b c) d) → Within b x → Within c y → Within d (add f x y)
-add-in f (fin false b g) (fin false c h) d x y t p q = widen (add f (fin false b g) (fin false c h)) d (add f x y) t (add-within f b c g h x y p q)
-add-in f nan c d x y t p q = elim t [ ]
-add-in f (inf _) c d x y t p q = elim t [ ]
-add-in f (fin false b g) nan d x y t p q = elim t [ ]
-add-in f (fin false b g) (inf _) d x y t p q = elim t [ ]
-add-in f (fin false b g) (fin true c h) d x y t p q = elim t [ ]
-add-in f (fin true b g) c d x y t p q = elim t [ ]
+add-in f b c d x y t =
+    sizes (λ b c. T (le (add f b c) d) → Within b x → Within c y → Within d (add f x y)) (λ m n e g k p q. widen (add f (fin false m e) (fin false n g)) d (add f x y) k (add-within f m n e g x y p q))
+    b c (and_l (bound b && bound c) (le (add f b c) d) t) (and_r (bound b && bound c) (le (add f b c) d) t)
 
 pub sub_in : (f : Format) (b c d x y : Float) → T (bound b && bound c && le (add f b c) d) → Within b x → Within c y → Within d (sub f x y)
-sub_in f (fin false b g) (fin false c h) d x y t p q = widen (add f (fin false b g) (fin false c h)) d (sub f x y) t (sub_within f b c g h x y p q)
-sub_in f nan c d x y t p q = elim t [ ]
-sub_in f (inf _) c d x y t p q = elim t [ ]
-sub_in f (fin false b g) nan d x y t p q = elim t [ ]
-sub_in f (fin false b g) (inf _) d x y t p q = elim t [ ]
-sub_in f (fin false b g) (fin true c h) d x y t p q = elim t [ ]
-sub_in f (fin true b g) c d x y t p q = elim t [ ]
+sub_in f b c d x y t =
+    sizes (λ b c. T (le (add f b c) d) → Within b x → Within c y → Within d (sub f x y)) (λ m n e g k p q. widen (add f (fin false m e) (fin false n g)) d (sub f x y) k (sub_within f m n e g x y p q))
+    b c (and_l (bound b && bound c) (le (add f b c) d) t) (and_r (bound b && bound c) (le (add f b c) d) t)
 
 -- ---- a bound on the size is one on either side
 pub le-abs : (x : Float) → real x → T (le x (abs x)) × T (le (neg (abs x)) x)

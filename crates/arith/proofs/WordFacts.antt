@@ -1,21 +1,13 @@
 -- Facts on patterns of floats. Assumes nothing.
-use Rattle.std.proofs.Common.{◌≡◌, ℕ, ◌%◌, ◌<◌, ◌≤◌, Bool, true, false, not, T, sym, refl, ◌∙◌, subst, arith, le-ltb, lt-ltb}
-use lib.Ieee.{Float, nan, inf, fin, binary64, is_nan, nan_bits, of_bits, to_bits, ne}
+use Rattle.std.proofs.Common.{◌≡◌, ℕ, ◌%◌, ◌<◌, ◌≤◌, Bool, true, not, T, sym, refl, ◌∙◌, subst, le-ltb, lt-ltb}
+use lib.Ieee.{Float, nan, inf, fin, binary64, is_nan, nan_bits, of_bits, to_bits}
 use lib.Ieee.Bits.{nan_bits_is, nan_bits_above}
-use lib.Ieee.Compare.{nan_differs}
 
 pub is-nan : (x : Float) → is_nan x ≡ true → x ≡ nan
 unfolding is_nan
 is-nan nan e = refl
 is-nan (inf s) e = cc
 is-nan (fin s m x) e = cc
-
--- x != x was false
-pub no_nan : (x : Float) → ne x x ≡ false → T (not (is_nan x))
-unfolding is_nan
-no_nan nan e = let z : ◌≡◌ {A = ℕ} 0 1 = cc nan_differs in absurd (omega arith)
-no_nan (inf s) e = tt
-no_nan (fin s m x) e = tt
 
 -- a word above the infinity's, its sign taken off, is a NaN's
 pub above_nan : (w : ℕ) → 0x7ff0_0000_0000_0000 < w % 0x8000_0000_0000_0000 → nan ≡ of_bits binary64 w

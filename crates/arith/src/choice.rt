@@ -38,7 +38,7 @@ pub fn lesser(earlier: f64, later: f64) -> f64
 pub fn least(xs: &[f64]) -> f64
     ensures { result ≡ least_of xs.now }
 {
-    let mut best = 1.0 / 0.0;
+    let mut best = f64::INFINITY;
     for x in xs {
         best = lesser(best, *x);
     }

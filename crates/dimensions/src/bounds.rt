@@ -3,11 +3,12 @@ ghost use Rattle.std.specs.Prelude.{◌≡◌, ◌<◌};
 ghost use Rattle.distribution.specs.Shape.{continuous_of};
 ghost use Rattle.dimensions.specs.Dimensions.{same_bits, bounds_are, with_bounds, dimension_of, dimension_ok, dimensions_ok};
 
-use crate::DimensionInfo;
+use crate::{DimensionInfo, Dimensions};
 use distribution::Distribution;
 use encoding::InternalBounds;
 
 // Whether two floats have the same bits.
+// Kept: NaNs count as one float, whose pattern is `word_of_float`'s; `to_bits` promises none for a NaN.
 fn same_bits(a: f64, b: f64) -> bool
     ensures { result ≡ same_bits a b }
 {
@@ -59,10 +60,10 @@ fn dimension_ok(d: DimensionInfo) -> bool
 
 // Whether they are at most 20, each with its distribution's bounds.
 #[tactic(auto, unfolding(crate::specs::Dimensions::dimensions_ok))]
-pub fn dimensions_ok(dims: [DimensionInfo; 20], k: usize) -> bool
-    ensures { result ≡ dimensions_ok dims k }
+pub fn dimensions_ok(dims: Dimensions) -> bool
+    ensures { result ≡ dimensions_ok dims.list dims.count }
 {
-    k <= 20 && dims[..k].iter().all(|d| dimension_ok(*d))
+    dims.count <= 20 && dims.list[..dims.count].iter().all(|d| dimension_ok(*d))
 }
 
 // Whether it is no choice.

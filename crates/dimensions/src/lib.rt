@@ -13,3 +13,11 @@ pub struct DimensionInfo {
     pub lo: f64,
     pub hi: f64,
 }
+
+// Dimensions: the first ones of a list, as many as the count says.
+// Kept: an array with its count, since memory is fixed.
+#[derive(Clone, Copy)]
+pub struct Dimensions {
+    pub list: [DimensionInfo; 20],
+    pub count: usize,
+}

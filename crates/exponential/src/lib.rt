@@ -18,12 +18,7 @@ fn nearest(t: f64) -> u64
     requires { Within (fin false 1 (pos 60)) t }
     ensures { result ≡ nearest_of t }
 {
-    let d = t + t;
-    if d < 0.0 {
-        (std::num::truncating_f64_to_u64(-d) + 1) / 2
-    } else {
-        (std::num::truncating_f64_to_u64(d) + 1) / 2
-    }
+    (std::num::truncating_f64_to_u64(arith::abs(t + t)) + 1) / 2
 }
 
 // 2 to the b - 1023.
@@ -64,7 +59,7 @@ fn horner(r: f64) -> f64
 pub fn exp(x: f64) -> Result<f64, Refusal>
     ensures { result ≡ exp_of x }
 {
-    if x != x {
+    if x.is_nan() {
         return Ok(x);
     }
     if x < -708.0 {

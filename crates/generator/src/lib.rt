@@ -54,6 +54,7 @@ pub fn sample_random(g: &mut Generator, d: Distribution) -> Result<Draw<ParamVal
 }
 
 // The point of highest expected improvement, of n_candidates points drawn.
+// Kept: `n_dims` beside the model, as in the Rust: another count than the model's is 11.
 pub fn optimize_acquisition(
     g: &mut Generator,
     m: Model,

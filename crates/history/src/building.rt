@@ -10,7 +10,7 @@ ghost use Rattle.history.specs.Training.{trains_of, x_of, y_of, built_of, recent
 use crate::columns::Columns;
 use crate::rows::Rows;
 use crate::{Places, Training, columns};
-use dimensions::DimensionInfo;
+use dimensions::Dimensions;
 use refusal::Refusal;
 
 // The rows that train.
@@ -75,39 +75,29 @@ fn of_columns(rows: &Rows, columns: &Columns) -> Training
 }
 
 // The training data of the recent rows, by the mapping from the first of them.
-fn recent_training(
-    rows: &Rows,
-    dims: &[DimensionInfo; 20],
-    k: usize,
-    mapping: &[Option<u64>; 20],
-) -> Training
-    requires { (k ≤ 20) × (rows.now.count ≡ row_count rows.now.slots rows.now.words.now) × (mapping.now ≡ filled None 20 (mapped_of rows.now.slots dims.now k (row_at rows.now.slots rows.now.words.now 0))) }
-    ensures { result ≡ recent_training rows.now.slots dims.now k rows.now.words.now }
+fn recent_training(rows: &Rows, dims: &Dimensions, mapping: &[Option<u64>; 20]) -> Training
+    requires { (dims.now.count ≤ 20) × (rows.now.count ≡ row_count rows.now.slots rows.now.words.now) × (mapping.now ≡ filled None 20 (mapped_of rows.now.slots dims.now.list dims.now.count (row_at rows.now.slots rows.now.words.now 0))) }
+    ensures { result ≡ recent_training rows.now.slots dims.now.list dims.now.count rows.now.words.now }
 {
-    let places = columns::continuous(dims, k);
+    let places = columns::continuous(dims);
     let columns = Columns {
-        dims,
+        dims: &dims.list,
         mapping,
         places: &places.at[..places.count],
     };
     of_columns(rows, &columns)
 }
 
-// The training data of a history for k dimensions.
-pub fn build_training_data(
-    slots: usize,
-    dims: [DimensionInfo; 20],
-    k: usize,
-    h: &[u64],
-) -> Result<Training, Refusal>
-    ensures { result ≡ training_of slots dims k h.now }
+// The training data of a history for these dimensions.
+pub fn build_training_data(slots: usize, dims: Dimensions, h: &[u64]) -> Result<Training, Refusal>
+    ensures { result ≡ training_of slots dims.list dims.count h.now }
 {
-    let mapping = param_mapping::establish_param_mapping(slots, dims, k, h)?;
+    let mapping = param_mapping::establish_param_mapping(slots, dims, h)?;
     let recent = history_rows::recent_part(slots, h);
     let rows = Rows {
         slots,
         count: recent.rows,
         words: &h[recent.start..],
     };
-    Ok(recent_training(&rows, &dims, k, &mapping))
+    Ok(recent_training(&rows, &dims, &mapping))
 }

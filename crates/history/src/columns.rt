@@ -6,7 +6,7 @@ ghost use Rattle.history.specs.Training.{mapped_place, trains_of, entry_of, colu
 
 use crate::Places;
 use crate::rows::Row;
-use dimensions::DimensionInfo;
+use dimensions::{DimensionInfo, Dimensions};
 use refusal::Refusal;
 
 impl Places {
@@ -30,14 +30,14 @@ impl Places {
     }
 }
 
-// The continuous ones of k dimensions.
-pub(crate) fn continuous(dims: &[DimensionInfo; 20], k: usize) -> Places
-    requires { k ≤ 20 }
-    ensures { result ≡ places_in (columns_of dims.now k) }
+// The continuous ones of these dimensions.
+pub(crate) fn continuous(dims: &Dimensions) -> Places
+    requires { dims.now.count ≤ 20 }
+    ensures { result ≡ places_in (columns_of dims.now.list dims.now.count) }
 {
     let mut places = Places::new();
-    for j in 0..k {
-        let dim = dims[j];
+    for j in 0..dims.count {
+        let dim = dims.list[j];
         if dimensions::is_continuous(dim.distribution) {
             places.push(j);
         }

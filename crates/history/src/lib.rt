@@ -16,6 +16,7 @@ pub struct Places {
 }
 
 // The training data: n rows of d columns, row after row, and n values.
+// Kept: arrays with their counts, since memory is fixed; what reads them takes slices.
 #[derive(Drop)]
 pub struct Training {
     pub n: usize,

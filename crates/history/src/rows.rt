@@ -3,7 +3,10 @@ ghost use Rattle.std.specs.Prelude.{◌≡◌, ◌*◌, ◌≤◌, ◌<◌, leng
 ghost use Rattle.std.specs.Float.{binary64};
 ghost use Rattle.std.specs.Float.Ieee.{of_bits};
 ghost use Rattle.history_rows.specs.Rows.{width_of, row_at, slot_at, objective_of};
+ghost use Rattle.history_rows.specs.Slots.{below};
 ghost use Rattle.history.specs.Training.{mapped_place, covers_of};
+
+use slots::{ROW_HEAD, SLOT_WORDS};
 
 // One row.
 #[derive(Clone, Copy)]
@@ -15,14 +18,12 @@ pub(crate) struct Row<'a> {
 }
 
 impl<'a> Row<'a> {
-    // The place of its slot for a dimension of that id, or the number of its slots.
-    fn place(&self, id: Option<u64>) -> usize
-        ensures { result ≡ mapped_place self.now.slots self.now.words.now id }
+    // The place of its slot for a dimension of that id.
+    #[tactic(auto, using(history_rows::proofs::Border::place_with))]
+    fn place(&self, id: Option<u64>) -> Option<usize>
+        ensures { result ≡ below self.now.slots (mapped_place self.now.slots self.now.words.now id) }
     {
-        match id {
-            Some(id) => history_rows::slot_place(self.slots, self.words, id),
-            None => self.slots,
-        }
+        history_rows::slot_place(self.slots, self.words, id?)
     }
 
     // Whether it has a slot for such a dimension.
@@ -30,7 +31,7 @@ impl<'a> Row<'a> {
     pub(crate) fn covers(&self, id: Option<u64>) -> bool
         ensures { result ≡ covers_of self.now.slots self.now.words.now id }
     {
-        self.place(id) < self.slots
+        self.place(id).is_some()
     }
 
     // Its slot for such a dimension.
@@ -38,9 +39,9 @@ impl<'a> Row<'a> {
         requires { mapped_place self.now.slots self.now.words.now id < self.now.slots }
         ensures { (result.now ≡ slot_at self.now.words.now (mapped_place self.now.slots self.now.words.now id)) × (length result.now ≡ 8) }
     {
-        let s = self.place(id);
-        let at = 3 + 8 * s;
-        &self.words[at..at + 8]
+        let s = self.place(id).unwrap();
+        let at = ROW_HEAD + SLOT_WORDS * s;
+        &self.words[at..at + SLOT_WORDS]
     }
 
     // Its objective.
@@ -68,7 +69,7 @@ impl<'a> Rows<'a> {
         requires { i < self.now.count }
         ensures { (result.slots ≡ self.now.slots) × (result.words.now ≡ row_at self.now.slots self.now.words.now i) }
     {
-        let width = 3 + 8 * self.slots;
+        let width = ROW_HEAD + SLOT_WORDS * self.slots;
         let start = i * width;
         Row {
             slots: self.slots,

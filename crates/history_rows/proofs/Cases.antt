@@ -10,14 +10,14 @@ use Rattle.distribution.specs.Equal.{equal_of, float_equal, int_equal}
 use Rattle.distribution.specs.Shape.{shape_of, float_step}
 use Rattle.distribution.specs.Taken.{taken_of, value_of, float_taken, int_taken}
 use Rattle.distribution_words.specs.Words.{read_of, checked_of, float_read, int_read, categorical_read}
-use Rattle.history_rows.specs.First.{first_row_with, like_first, row_like_first, passes_of}
+use Rattle.history_rows.specs.First.{first_row_with, like_first, row_like_first}
 use Rattle.history_rows.specs.Recent.{recent_part}
 use Rattle.history_rows.specs.Slots.{slot_with, slot_place}
 use Rattle.history_rows.specs.Rows.{whole_rows, row_count, recent_count, recent_of}
 use Rattle.history_rows.specs.Tests.{row_ok, slots_ok, ids_once, rows_agreeing, recent_tests, check_of}
 use Rattle.slots.specs.Slot.{slot_read, slot_ok, agreeing}
 use Rattle.refusal.specs.declared.Refusal.TheVariants.{BrokenRows, Objective, Slot, RepeatedId, UnequalId, OutOfDomain}
-use Rattle.std.specs.Prelude.{Ok, Err}
+use Rattle.std.specs.Prelude.{Ok, Err, Some, None}
 use Rattle.history_rows.proofs.Samples.{slot, absent, row}
 
 abbrev Numbers : Type 0
@@ -62,10 +62,10 @@ older = (refl, refl)
 -- where a slot is by its id: an absent slot has none, and words that are no row of at most 20 slots have none
 abbrev Places : Type 0
 Places =
-    (slot_place 2 (row 0 (slot 9 9 5 ++ slot 4 9 5)) 4 ≡ 1)
-    × (slot_place 2 (row 0 (slot 9 9 5 ++ absent)) 0 ≡ 2)
-    × (slot_place 2 (row 0 (slot 9 9 5)) 9 ≡ 2)
-    × (slot_place 21 (row 0 (slot 9 9 5)) 9 ≡ 21)
+    (slot_place 2 (row 0 (slot 9 9 5 ++ slot 4 9 5)) 4 ≡ Some 1)
+    × (slot_place 2 (row 0 (slot 9 9 5 ++ absent)) 0 ≡ None)
+    × (slot_place 2 (row 0 (slot 9 9 5)) 9 ≡ None)
+    × (slot_place 21 (row 0 (slot 9 9 5)) 9 ≡ None)
 
 places : Places
 unfolding slot_place slot_with place_of
@@ -97,11 +97,11 @@ firsts = (refl, refl, refl, refl)
 -- a row whose state alone is bad, one that has an id twice, and one whose distribution is not the first of its id
 abbrev Passes : Type 0
 Passes =
-    (passes_of 4 1 1 (row 4 absent) (row 4 absent) ≡ false)
-    × (passes_of 5 1 1 (row 4 absent) (row 4 absent) ≡ true)
-    × (passes_of 5 2 1 (row 0 (slot 9 9 5 ++ slot 9 9 5)) (row 0 (slot 9 9 5 ++ slot 9 9 5)) ≡ true)
-    × (passes_of 6 2 1 (row 0 (slot 9 9 5 ++ slot 9 9 5)) (row 0 (slot 9 9 5 ++ slot 9 9 5)) ≡ false)
-    × (passes_of 7 1 2 (row 0 (slot 9 9 5) ++ row 0 (slot 9 8 5)) (row 0 (slot 9 8 5)) ≡ false)
+    (row_ok (row 4 absent) ≡ false)
+    × (slots_ok 1 (row 4 absent) ≡ true)
+    × (slots_ok 2 (row 0 (slot 9 9 5 ++ slot 9 9 5)) ≡ true)
+    × (ids_once 2 (row 0 (slot 9 9 5 ++ slot 9 9 5)) ≡ false)
+    × (row_like_first 1 2 (row 0 (slot 9 9 5) ++ row 0 (slot 9 8 5)) (row 0 (slot 9 8 5)) ≡ false)
 
 passes : Passes
 unfolding row_ok slots_ok slot_ok ids_once row_like_first like_first first_row_with slot_with place_of slot_read every equal_of int_equal float_equal shape_of float_step taken_of value_of float_taken int_taken read_of checked_of float_read int_read categorical_read of_bits neg le lt eq

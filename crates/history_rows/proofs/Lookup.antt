@@ -1,17 +1,16 @@
 -- The slot of an id in a row, and the first row that has one, as they are looked up in chunks. Assumes nothing.
 use Rattle.std.proofs.Common.{◌≡◌, ℕ, ◌<◌, ◌≤◌, ltb, Bool, List, [], Some, None, length, get_or, sym, ap, ◌∙◌, arith}
 use Rattle.std.specs.List.{list_any, find, position, position_or_len}
-use Rattle.std.specs.Option.{unwrap_or}
 use Rattle.arith.specs.Lists.{place_of}
 use Rattle.arith.specs.Chunks.{chunks_of}
 use Rattle.arith.proofs.Lists.{place_same}
-use Rattle.arith.proofs.Passing.{first_place, position_place, any_first, find_first, find_nothing}
+use Rattle.arith.proofs.Passing.{first_place, any_first, find_first, find_nothing}
 use Rattle.arith.proofs.Chunks.{chunk_at, chunk_count}
 use Rattle.slots.specs.Slot.{has_id}
 use Rattle.history_rows.specs.Chunks.{slots_in}
 use Rattle.history_rows.specs.First.{first_row_with, first_slot_with}
 use Rattle.history_rows.specs.Rows.{width_of, row_count, row_at, slot_at}
-use Rattle.history_rows.specs.Slots.{slot_with}
+use Rattle.history_rows.specs.Slots.{slot_with, below}
 use Rattle.history_rows.proofs.First.{first-place}
 use Rattle.history_rows.proofs.Parts.{slot_count, slot_chunk, row_length}
 
@@ -24,11 +23,8 @@ slot_index n row id e =
     ∙ ap (λ (k : ℕ). place_of k (λ s. has_id id (get_or (slots_in row) s []))) (slot_count n row e)
     ∙ place_same n (λ s. has_id id (get_or (slots_in row) s [])) (λ s. has_id id (slot_at row s)) (λ s h. ap (has_id id) (slot_chunk n row s [] e h))
 
-pub slot_place_is : (n : ℕ) (row : List ℕ) (id : ℕ) → length row ≡ width_of n → unwrap_or (position (has_id id) (slots_in row)) n ≡ slot_with n row id
-unfolding slot_with
-slot_place_is n row id e =
-    position_place (has_id id) (slots_in row) [] n (slot_count n row e)
-    ∙ place_same n (λ s. has_id id (get_or (slots_in row) s [])) (λ s. has_id id (slot_at row s)) (λ s h. ap (has_id id) (slot_chunk n row s [] e h))
+pub slot_place_is : (n : ℕ) (row : List ℕ) (id : ℕ) → length row ≡ width_of n → position (has_id id) (slots_in row) ≡ below n (slot_with n row id)
+slot_place_is n row id e = rw (slot_index n row id e, slot_count n row e)
 
 has_one : (n : ℕ) (row : List ℕ) (id : ℕ) → length row ≡ width_of n → list_any (has_id id) (slots_in row) ≡ ltb (slot_with n row id) n
 has_one n row id e =

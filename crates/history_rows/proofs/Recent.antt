@@ -32,8 +32,8 @@ words-split n h =
     let e : row_count n h ≡ (row_count n h - recent_count n h) + recent_count n h = omega arith in
     ap (λ (k : ℕ). k * width_of n) e ∙ add-mul (row_count n h - recent_count n h) (recent_count n h) (width_of n)
 
-pub older-inside : (n : ℕ) (h : List ℕ) → older_of n h ≤ length h
-older-inside n h =
+pub older_inside : (n : ℕ) (h : List ℕ) → older_of n h ≤ length h
+older_inside n h =
     let e = words-split n h in
     let d : row_count n h * width_of n ≤ length h = unfold row_count in div-mul-le_self (length h) (width_of n) in
     omega arith

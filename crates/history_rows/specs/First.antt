@@ -1,11 +1,10 @@
 -- The tests of a row as the code makes them: 7 compares each present slot with the first recent slot of its id. Definitions only.
-use Rattle.std.specs.Prelude.{ℕ, Bool, cond, not, ◌||◌, List, eqb, ltb}
+use Rattle.std.specs.Prelude.{ℕ, Bool, not, ◌||◌, List, ltb}
 use Rattle.arith.specs.Lists.{every, place_of}
 use Rattle.history_rows.specs.Rows.{row_at, slot_at}
 use Rattle.slots.specs.Slot.{id_of}
 use Rattle.slots.specs.Slot.{present, slot_read, reads_equal}
 use Rattle.history_rows.specs.Slots.{slot_with}
-use Rattle.history_rows.specs.Tests.{row_ok, slots_ok, ids_once}
 
 -- the first of m rows that has the id, or m
 unfoldable pub first_row_with : ℕ → ℕ → List ℕ → ℕ → ℕ
@@ -23,7 +22,3 @@ like_first n m r v = not (present v) || reads_equal (slot_read (first_slot_with 
 unfoldable pub row_like_first : ℕ → ℕ → List ℕ → List ℕ → Bool
 unfolding like_first
 row_like_first n m r row = every n (λ s. like_first n m r (slot_at row s))
-
--- the row passes the test of that number, 4 to 7
-abbrev pub passes_of : ℕ → ℕ → ℕ → List ℕ → List ℕ → Bool
-passes_of number n m r row = cond (eqb number 4) (row_ok row) (cond (eqb number 5) (slots_ok n row) (cond (eqb number 6) (ids_once n row) (row_like_first n m r row)))

@@ -1,5 +1,5 @@
-// One row: three words, and then eight for each slot. A word past the end is 0.
-ghost use Rattle.std.specs.Prelude.{◌≡◌, not, drop, take, get_or};
+// One row: three words, and then eight for each slot.
+ghost use Rattle.std.specs.Prelude.{◌≡◌, not, drop, take};
 ghost use Rattle.std.specs.List.{list_all, list_any, find, position, enumerate_from};
 ghost use Rattle.std.specs.Option.{option_map};
 ghost use Rattle.std.specs.Slice.Iter.{chunks_exact_rest, chunks_exact_size};
@@ -8,29 +8,23 @@ ghost use Rattle.history_rows.specs.Tests.{row_ok};
 ghost use Rattle.history_rows.specs.Slots.{slot_place};
 ghost use Rattle.slots.specs.Slot.{slot_ok, has_id, same_id};
 
+use slots::{ROW_HEAD, SLOT_WORDS};
 use std::slice::ChunksExact;
-
-// Word k.
-pub(crate) fn word(row: &[u64], k: usize) -> u64
-    ensures { result ≡ get_or row.now k 0 }
-{
-    row.get(k).copied().unwrap_or(0)
-}
 
 // Its slots in order.
 pub(crate) fn each_slot(row: &[u64]) -> ChunksExact<'_, u64>
     ensures rest { chunks_exact_rest result ≡ drop 3 row.now }
     ensures size { chunks_exact_size result ≡ 8 }
 {
-    row.get(3..).unwrap_or(&[]).chunks_exact(8)
+    row.get(ROW_HEAD..).unwrap_or(&[]).chunks_exact(SLOT_WORDS)
 }
 
 // Whether its state and its objective are good.
 pub(crate) fn row_ok(row: &[u64]) -> bool
     ensures { result ≡ row_ok row.now }
 {
-    let state = word(row, 1);
-    let objective = arith::float_of_word(word(row, 2));
+    let state = slots::word(row, 1);
+    let objective = arith::float_of_word(slots::word(row, 2));
     state <= 3 && (-4503599627370496.0 <= objective && objective <= 4503599627370496.0)
 }
 
@@ -80,13 +74,13 @@ fn index_of(row: &[u64], id: u64) -> Option<usize>
     each_slot(row).position(|slot| slots::has_id(id, slot))
 }
 
-// The place of the slot with that id, of words that may be no row of n slots, n at most 20, and then n.
+// The place of the slot with that id. Words that are no row of n slots, n at most 20, have none.
 #[tactic(auto, using(crate::proofs::Lookup::slot_place_is), unfolding(crate::specs::Slots::slot_place))]
-pub fn slot_place(n: usize, row: &[u64], id: u64) -> usize
+pub fn slot_place(n: usize, row: &[u64], id: u64) -> Option<usize>
     ensures { result ≡ slot_place n row.now id }
 {
-    if n > 20 || row.len() != 3 + 8 * n {
-        return n;
+    if n > 20 || row.len() != ROW_HEAD + SLOT_WORDS * n {
+        return None;
     }
-    index_of(row, id).unwrap_or(n)
+    index_of(row, id)
 }

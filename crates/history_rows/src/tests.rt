@@ -13,6 +13,7 @@ ghost use Rattle.slots.specs.Slot.{has_id};
 
 use crate::{RecentRows, rows};
 use refusal::Refusal;
+use slots::{ROW_HEAD, SLOT_WORDS};
 use std::slice::ChunksExact;
 
 // The words of whole rows, each of that many slots.
@@ -30,7 +31,7 @@ impl Recent<'_> {
         ensures rest { chunks_exact_rest result ≡ self.now.words.now }
         ensures size { chunks_exact_size result ≡ width_of self.now.slots }
     {
-        self.words.chunks_exact(3 + 8 * self.slots)
+        self.words.chunks_exact(ROW_HEAD + SLOT_WORDS * self.slots)
     }
 
     // The first row with a slot of that id.
@@ -50,7 +51,7 @@ impl Recent<'_> {
         if !slots::is_present(slot) {
             return true;
         }
-        let id = rows::word(slot, 0);
+        let id = slots::word(slot, 0);
         match self.row_with(id) {
             Some(row) => match rows::slot_with(row, id) {
                 Some(first) => slots::reads_equal(slots::read(first), slots::read(slot)),
@@ -97,22 +98,25 @@ fn older(n: usize, h: &[u64]) -> usize
     requires { n ≤ 20 }
     ensures { result ≡ older_of n h.now }
 {
-    let w = 3 + 8 * n;
+    let w = ROW_HEAD + SLOT_WORDS * n;
     (h.len() / w).saturating_sub(100) * w
 }
 
 // How many recent rows it has.
+#[tactic(auto, using(crate::proofs::Recent::older_inside))]
 fn recent_rows(n: usize, h: &[u64]) -> usize
     requires { n ≤ 20 }
     ensures { result ≡ row_count n (recent_of n h.now) }
 {
     let start = older(n, h);
-    (h.len() - start) / (3 + 8 * n)
+    (h.len() - start) / (ROW_HEAD + SLOT_WORDS * n)
 }
 
 // Both, for slots up to 20; more are refused, and have none.
+#[tactic(auto, using(crate::proofs::Recent::older_inside), unfolding(crate::specs::Recent::recent_part))]
 pub fn recent_part(n: usize, h: &[u64]) -> RecentRows
-    ensures { result ≡ recent_part n h.now }
+    ensures is { result ≡ recent_part n h.now }
+    ensures inside { result.start ≤ length h.now }
 {
     if n > 20 {
         return RecentRows { start: 0, rows: 0 };
@@ -123,13 +127,14 @@ pub fn recent_part(n: usize, h: &[u64]) -> RecentRows
 }
 
 // A history of that many slots, 1 to 20: whole rows, and then the tests of its recent rows.
+#[tactic(auto, using(crate::proofs::Recent::older_inside))]
 pub fn check(slots: usize, h: &[u64]) -> Result<(), Refusal>
     ensures { result ≡ check_of slots h.now }
 {
     if slots < 1 || slots > 20 {
         return Err(Refusal::OutOfDomain);
     }
-    if h.len() % (3 + 8 * slots) != 0 {
+    if h.len() % (ROW_HEAD + SLOT_WORDS * slots) != 0 {
         return Err(Refusal::BrokenRows);
     }
     let start = older(slots, h);

@@ -5,21 +5,16 @@ ghost use Rattle.history_view.specs.Usable.{Usable};
 ghost use Rattle.history_view.specs.View.{view_of};
 
 use crate::View;
-use dimensions::DimensionInfo;
+use dimensions::Dimensions;
 use refusal::Refusal;
+use slots::{ROW_HEAD, SLOT_WORDS};
 
 // The view of a history: whether all its rows reach the start-up count, and its training data.
-pub fn view_of(
-    slots: usize,
-    startup: u64,
-    dims: [DimensionInfo; 20],
-    k: usize,
-    h: &[u64],
-) -> Result<View, Refusal>
-    ensures { result ≡ view_of slots startup dims k h.now }
+pub fn view_of(slots: usize, startup: u64, dims: Dimensions, h: &[u64]) -> Result<View, Refusal>
+    ensures { result ≡ view_of slots startup dims.list dims.count h.now }
 {
-    let training = history::build_training_data(slots, dims, k, h)?;
-    let rows = h.len() / (3 + 8 * slots);
+    let training = history::build_training_data(slots, dims, h)?;
+    let rows = h.len() / (ROW_HEAD + SLOT_WORDS * slots);
     Ok(View {
         reached: startup <= rows as u64,
         training,

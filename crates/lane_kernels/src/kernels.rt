@@ -21,17 +21,13 @@ fn squares(s: &[f64; 8], column: &[f64; 8], x: f64, lengthscale: f64) -> [f64; 8
     })
 }
 
-// The squared distances of eight points and row i of a table of d columns.
-fn distance(
-    points: &[[f64; 8]; 20],
-    x: &[f64],
-    d: usize,
-    lengthscales: &[f64],
-    i: usize,
-) -> [f64; 8]
-    requires { (d ≤ 20) × (i * d + d ≤ length x.now) × (length lengthscales.now ≡ d) }
-    ensures { result ≡ eight_of (λ (p : ℕ). sum_over d (distance_term points.now x.now d lengthscales.now i p)) }
+// The squared distances of eight points and row i of a table with a column for each lengthscale.
+fn distance(points: &[[f64; 8]; 20], x: &[f64], lengthscales: &[f64], i: usize) -> [f64; 8]
+    requires { let d = length lengthscales.now in (d ≤ 20) × (i * d + d ≤ length x.now) }
+    ensures { let d = length lengthscales.now in
+        result ≡ eight_of (λ (p : ℕ). sum_over d (distance_term points.now x.now d lengthscales.now i p)) }
 {
+    let d = lengthscales.len();
     let start = i * d;
     let mut s = [0.0; 8];
     for j in 0..d {
@@ -70,39 +66,32 @@ fn kernel_rows(
     points: &[[f64; 8]; 20],
     x: &[f64],
     n: usize,
-    d: usize,
     lengthscales: &[f64],
 ) -> [[f64; 8]; 100]
-    requires { (n ≤ 100) × (d ≤ 20) × (n * d ≤ length x.now) × (length lengthscales.now ≡ d) }
-    ensures { result ≡ rows_of (kernel_rows_of points.now x.now n d lengthscales.now) }
+    requires { let d = length lengthscales.now in (n ≤ 100) × (d ≤ 20) × (n * d ≤ length x.now) }
+    ensures { result ≡ rows_of (kernel_rows_of points.now x.now n (length lengthscales.now) lengthscales.now) }
 {
     let mut out = [[0.0; 8]; 100];
     for i in 0..n {
-        let r_sq = distance(points, x, d, lengthscales, i);
+        let r_sq = distance(points, x, lengthscales, i);
         out[i] = decays(&r_sq);
     }
     out
 }
 
-// The same: zeros over 100 rows or 20 columns, and where a list's length is another.
+// The same: zeros over 100 rows or 20 columns, and where the rows are not all there.
 #[tactic(auto, unfolding(crate::specs::Kernels::kernel_lanes_of))]
 pub fn kernel_vectors(
     points: &[[f64; 8]; 20],
     x: &[f64],
     n: usize,
-    d: usize,
     lengthscales: &[f64],
 ) -> [[f64; 8]; 100]
-    ensures { result ≡ kernel_lanes_of points.now x.now n d lengthscales.now }
+    ensures { result ≡ kernel_lanes_of points.now x.now n (length lengthscales.now) lengthscales.now }
 {
-    if n <= 100 {
-        if d <= 20 {
-            if n * d <= x.len() {
-                if lengthscales.len() == d {
-                    return kernel_rows(points, x, n, d, lengthscales);
-                }
-            }
-        }
+    let d = lengthscales.len();
+    if n <= 100 && d <= 20 && n * d <= x.len() {
+        return kernel_rows(points, x, n, lengthscales);
     }
     [[0.0; 8]; 100]
 }

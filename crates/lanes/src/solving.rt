@@ -50,7 +50,7 @@ fn forward(l: &[f64; 5050], b: &[[f64; 8]; 100], n: usize) -> [[f64; 8]; 100]
 }
 
 // Row i of the unknowns, from the m rows behind it in x.
-#[tactic(auto, using(factor::proofs::Triangle::at_room, crate::proofs::Less::row_start, crate::proofs::Less::below_room))]
+#[tactic(auto, using(factor::proofs::Triangle::at_room, crate::proofs::Less::row_start))]
 fn unknown(
     l: &[f64; 5050],
     z: &[[f64; 8]; 100],
@@ -63,11 +63,10 @@ fn unknown(
 {
     let diagonal = i * (i + 1) / 2 + i;
     let mut s = z[i];
-    let mut place = diagonal;
     for k in 0..m {
         let q = i + 1 + k;
-        place += q;
-        s = less(&s, l[place], &x[q]);
+        let start = q * (q + 1) / 2;
+        s = less(&s, l[start + i], &x[q]);
     }
     over(&s, l[diagonal])
 }

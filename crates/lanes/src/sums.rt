@@ -28,28 +28,18 @@ pub fn dot(a: &[[f64; 8]; 100], b: &[[f64; 8]; 100], n: usize) -> [f64; 8]
     s
 }
 
-// s and the product of a and v, lane by lane.
-#[tactic(auto, using(arith::proofs::Eights::eight_floats))]
-fn more_by(s: &[f64; 8], a: &[f64; 8], v: f64) -> [f64; 8]
-    ensures { result ≡ eight_of (λ (p : ℕ). add binary64 (get_or s.now p nan) (mul binary64 (get_or a.now p nan) v)) }
-{
-    std::array::from_fn(|p| s[p] + a[p] * v)
-}
-
 // The dot products of the first n rows of each lane of a and of one list b: zeros over 100 rows, or where b is shorter.
+// Kept: dot's loop over a list; one loop for both takes a closure for b's rows, whose clauses are longer than the loop.
 #[tactic(auto, unfolding(crate::specs::Sums::dot_each_of))]
 pub fn dot_each(a: &[[f64; 8]; 100], b: &[f64], n: usize) -> [f64; 8]
     ensures { result ≡ dot_each_of a.now b.now n }
 {
     let mut s = [0.0; 8];
-    if n > 100 {
-        return s;
-    }
-    if n > b.len() {
+    if n > 100 || n > b.len() {
         return s;
     }
     for i in 0..n {
-        s = more_by(&s, &a[i], b[i]);
+        s = more(&s, &a[i], &[b[i]; 8]);
     }
     s
 }

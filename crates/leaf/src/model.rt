@@ -7,6 +7,7 @@ use gp_model::Model;
 use search::Candidate;
 
 // The data of a fit: its rows of d columns, one after the other, and their values.
+// Kept: d beside the rows, since a fit of no rows has columns too.
 #[derive(Clone, Copy)]
 struct FitData<'a> {
     d: usize,

@@ -6,18 +6,18 @@ ghost use Rattle.std.specs.Prelude.{◌≤◌, length};
 use crate::codings;
 use crate::model::put_floats;
 use crate::reply::{Failure, Reply, Results, Written, outcome, put};
-use dimensions::DimensionInfo;
+use dimensions::{DimensionInfo, Dimensions};
 use distribution::{CategoricalDistribution, Distribution};
 use history::Training;
+use slots::{ROW_HEAD, SLOT_WORDS};
 
-// What `mapping` and `training` read: the number of slots, k dimensions and a history.
+// What `mapping` and `training` read: the number of slots, the dimensions and a history.
 #[derive(Clone, Copy)]
 struct Query<'a> {
     slots: usize,
-    dims: [DimensionInfo; 20],
-    k: usize,
+    dims: Dimensions,
     history: &'a [u64],
-    ghost few: { k ≤ 20 },
+    ghost few: { dims.count ≤ 20 },
 }
 
 // The number of rows. A history that is not refused has at most 20 slots.
@@ -30,7 +30,10 @@ pub(crate) fn history(args: &[u64], results: &mut Results) -> Reply {
     if slots > 20 {
         return Err(Failure::Unreadable);
     }
-    put([(h.len() / (3 + 8 * slots)) as u64], results)
+    put(
+        [(h.len() / (ROW_HEAD + SLOT_WORDS * slots)) as u64],
+        results,
+    )
 }
 
 // What stands past the dimensions: a choice of one.
@@ -61,8 +64,10 @@ fn read_query(args: &[u64]) -> Result<Query<'_>, Failure> {
     let (dims, history) = words.split_at(6 * k);
     Ok(Query {
         slots: *slots as usize,
-        dims: read_dimensions(dims)?,
-        k,
+        dims: Dimensions {
+            list: read_dimensions(dims)?,
+            count: k,
+        },
         history,
     })
 }
@@ -79,9 +84,11 @@ fn put_ids(ids: &[Option<u64>], results: &mut Results)
 
 pub(crate) fn mapping(args: &[u64], results: &mut Results) -> Reply {
     let q = read_query(args)?;
-    let ids = outcome(param_mapping::establish_param_mapping(q.slots, q.dims, q.k, q.history))?;
-    put_ids(&ids[..q.k], results);
-    Ok(Written { words: 2 * q.k })
+    let ids = outcome(param_mapping::establish_param_mapping(q.slots, q.dims, q.history))?;
+    put_ids(&ids[..q.dims.count], results);
+    Ok(Written {
+        words: 2 * q.dims.count,
+    })
 }
 
 // How many coordinates n rows of d columns have.
@@ -110,6 +117,6 @@ fn put_training(t: Training, results: &mut Results) -> Reply {
 
 pub(crate) fn training(args: &[u64], results: &mut Results) -> Reply {
     let q = read_query(args)?;
-    let t = outcome(history::build_training_data(q.slots, q.dims, q.k, q.history))?;
+    let t = outcome(history::build_training_data(q.slots, q.dims, q.history))?;
     put_training(t, results)
 }

@@ -28,7 +28,9 @@ use Rattle.arith.proofs.Order.{LeS}
 use Rattle.arith.proofs.Mono.{add_left, add_right}
 use Rattle.logarithm.proofs.LnSize.{s-of}
 use Rattle.logarithm.proofs.LnSplit.{split}
-use Rattle.logarithm.proofs.LnTerm.{each, each_at, exact, product, Off, edge, Range, term, term_is, term-mono}
+use Rattle.arith.specs.Lists.{every}
+use Rattle.arith.proofs.Lists.{every-each}
+use Rattle.logarithm.proofs.LnTerm.{exact, product, Off, edge, Range, term, term_is, term-mono}
 
 -- ---- the ends of the term in m
 abbrev low : Float
@@ -66,15 +68,15 @@ abbrev finites : ℕ → Bool
 finites i =
     finite (mul binary64 (exponent i) H) && finite (mul binary64 (exponent i) L) && finite (add binary64 low (mul binary64 (exponent i) L)) && finite (add binary64 high (mul binary64 (exponent i) L))
 
-all-finite : T (each finites 108)
-unfolding add mul of_int of_bits
+all-finite : T (every 108 finites)
+unfolding every add mul of_int of_bits
 all-finite = tt
 
 abbrev below_next : ℕ → Bool
 below_next i = le (value i high) (value (suc i) low)
 
-all-below : T (each below_next 107)
-unfolding le add mul of_int of_bits
+all-below : T (every 107 below_next)
+unfolding every le add mul of_int of_bits
 all-below = tt
 
 four : (a b c d : Bool) → T (a && b && c && d) → T a × T b × T c × T d
@@ -109,7 +111,7 @@ value-mono i x y l X Y h = add_right e_h (add binary64 x e_l) (add binary64 y e_
     e_l = mul binary64 (exponent i) L
 
     F : T (finite e_h) × T (finite e_l) × T (finite (add binary64 low e_l)) × T (finite (add binary64 high e_l))
-    F = four (finite e_h) (finite e_l) (finite (add binary64 low e_l)) (finite (add binary64 high e_l)) (each_at finites 108 i l all-finite)
+    F = four (finite e_h) (finite e_l) (finite (add binary64 low e_l)) (finite (add binary64 high e_l)) (every-each 108 finites all-finite i l)
 
     sum-finite : (x : Float) → Between low high x → T (finite (add binary64 x e_l))
     sum-finite x X =
@@ -125,7 +127,7 @@ high-in = unfold le of_bits in (tt, tt)
 below-later : (i j : ℕ) → i < j → j < 108 → T (le (value i high) (value j low))
 below-later i zero h l = absurd (not-suc-le-zero h)
 below-later i (suc j) h l =
-    let n = each_at below_next 107 j (le_of_suc-le-suc l) all-below in
+    let n = every-each 107 below_next all-below j (le_of_suc-le-suc l) in
     elim (eq-or-lt_of_le (le_of_suc-le-suc h)) [
       | inl e ↦ subst (λ (k : ℕ). T (le (value k high) (value (suc j) low))) (sym e) n
       | inr k ↦ order.le_trans (value i high) (value j high) (value (suc j) low) (order.le_trans (value i high) (value j low) (value j high) (below-later i j k (omega arith)) (value-mono j low high (omega arith) low-in high-in low-in.1)) n
@@ -185,15 +187,15 @@ reduced-mono k t k' t' v w l p q h =
 abbrev adds_one : ℕ → Bool
 adds_one i = eqb (to_bits binary64 (add binary64 (exponent i) (whole 1))) (to_bits binary64 (exponent (suc i)))
 
-all_one : T (each adds_one 107)
-unfolding add of_int to_bits
+all_one : T (every 107 adds_one)
+unfolding every add of_int to_bits
 all_one = tt
 
 next-exponent : (i : ℕ) → i < 107 → add binary64 (exponent i) (whole 1) ≡ exponent (suc i)
 next-exponent i h =
     let a = add binary64 (exponent i) (whole 1) in
     let b = exponent (suc i) in
-    sym (of_bits-to_bits binary64 a (add-fits binary64 (exponent i) (whole 1))) ∙ ap (λ (n : ℕ). of_bits binary64 n) (eqb→eq (to_bits binary64 a) (to_bits binary64 b) (each_at adds_one 107 i h all_one)) ∙ of_bits-to_bits binary64 b (of_int-fits binary64 (minus (970 + suc i) 1023))
+    sym (of_bits-to_bits binary64 a (add-fits binary64 (exponent i) (whole 1))) ∙ ap (λ (n : ℕ). of_bits binary64 n) (eqb→eq (to_bits binary64 a) (to_bits binary64 b) (every-each 107 adds_one all_one i h)) ∙ of_bits-to_bits binary64 b (of_int-fits binary64 (minus (970 + suc i) 1023))
 
 exponent-of : (x : Float) (i : ℕ) → field x ≡ 970 + i → of_int binary64 (exponent_of x) ≡ exponent i
 unfolding exponent_of

@@ -1,12 +1,13 @@
 -- The two parts of ln, e × H and the rest, and their bounds, for an m from 724/1024 to 1449/1024, which has √½ and √2 between them, and an e of at most 53 in size. Assumes nothing.
 use mathlib.Core.Path.{◌≡◌, refl, subst}
-use Prim.Native.Nat.{ℕ}
+use Prim.Native.Nat.{ℕ, zero, suc, ◌+◌, ◌*◌}
 use mathlib.Core.Bool.{Bool, true, false, ◌&&◌}
 use lib.Dec.{T}
 use lib.IntN.{pos, negsuc}
 use lib.Ieee.{Float, fin, binary64, add, sub, mul, div, neg, unlike, lt, le, of_int, of_bits}
-use lib.Ieee.Fits.{and_i, and_l}
+use lib.Ieee.Fits.{and_i, and_l, and_r}
 use lib.Ieee.Scale.{finite}
+use Rattle.arith.specs.Lists.{every}
 use Rattle.arith.proofs.Order as order
 use Rattle.arith.specs.Bounds.{abs, Within, Between, Sign}
 use Rattle.arith.proofs.Within.{within, upper, lower, mul_in, div-in, add-in, near-in, le-abs, within-finite}
@@ -46,8 +47,8 @@ more-one m F l w =
     and_i (finite d) (le (fin false 437 (negsuc 7)) (abs d)) (within-finite (fin false 3 (pos 0)) d tt b)
     (order.le_trans (fin false 437 (negsuc 7)) d (abs d) g (le-abs d (order.le-real (fin false 437 (negsuc 7)) d g).1).0)
 
-abbrev term : ℕ → Float → Float → Float
-term k z q = add binary64 (div binary64 (K 1) (K k)) (mul binary64 z q)
+abbrev pub coefficient : ℕ → Float
+coefficient n = div binary64 (K 1) (K (2 * n + 1))
 
 abbrev z-max : Float
 z-max = fin false 1 (negsuc 3)
@@ -59,31 +60,22 @@ step c z q Z Q C = add-in binary64 (fin false 1 (negsuc 0)) (fin false 1 (negsuc
 abbrev q-max : Float
 q-max = fin false 9 (negsuc 2)
 
+abbrev half : ℕ → Bool
+half n = le (abs (coefficient (suc n))) (fin false 1 (negsuc 0))
+
+-- what the last coefficient is added to
+last : (n : ℕ) → T (every n half) → (z q : Float) → Within z-max z → Within (K 1) q → (v : Float) × Within (K 1) v × (series (suc n) z q ≡ add binary64 (coefficient 0) (mul binary64 z v))
+unfolding series every
+last zero t z q Z Q = (q, Q, refl)
+last (suc n) t z q Z Q =
+    let c = coefficient (suc n) in
+    last n (and_l (every n half) (half n) t) z (add binary64 c (mul binary64 z q)) Z (step c z q Z Q (and_r (every n half) (half n) t))
+
 series-size : (z : Float) → Within z-max z → Between (fin false 15 (negsuc 3)) (fin false 17 (negsuc 3)) (series 11 z (div binary64 (K 1) (K 23)))
-unfolding series div of_int le add sub mul
+unfolding every div of_int le add sub mul
 series-size z Z =
-    let v23 = div binary64 (K 1) (K 23) in
-    let v21 = term 21 z v23 in
-    let w21 : Within (K 1) v21 = step (div binary64 (K 1) (K 21)) z v23 Z tt tt in
-    let v19 = term 19 z v21 in
-    let w19 : Within (K 1) v19 = step (div binary64 (K 1) (K 19)) z v21 Z w21 tt in
-    let v17 = term 17 z v19 in
-    let w17 : Within (K 1) v17 = step (div binary64 (K 1) (K 17)) z v19 Z w19 tt in
-    let v15 = term 15 z v17 in
-    let w15 : Within (K 1) v15 = step (div binary64 (K 1) (K 15)) z v17 Z w17 tt in
-    let v13 = term 13 z v15 in
-    let w13 : Within (K 1) v13 = step (div binary64 (K 1) (K 13)) z v15 Z w15 tt in
-    let v11 = term 11 z v13 in
-    let w11 : Within (K 1) v11 = step (div binary64 (K 1) (K 11)) z v13 Z w13 tt in
-    let v9 = term 9 z v11 in
-    let w9 : Within (K 1) v9 = step (div binary64 (K 1) (K 9)) z v11 Z w11 tt in
-    let v7 = term 7 z v9 in
-    let w7 : Within (K 1) v7 = step (div binary64 (K 1) (K 7)) z v9 Z w9 tt in
-    let v5 = term 5 z v7 in
-    let w5 : Within (K 1) v5 = step (div binary64 (K 1) (K 5)) z v7 Z w7 tt in
-    let v3 = term 3 z v5 in
-    let w3 : Within (K 1) v3 = step (div binary64 (K 1) (K 3)) z v5 Z w5 tt in
-    near-in binary64 (div binary64 (K 1) (K 1)) (fin false 1 (negsuc 3)) (fin false 15 (negsuc 3)) (fin false 17 (negsuc 3)) (mul binary64 z v3) tt (mul_in binary64 z-max (K 1) (fin false 1 (negsuc 3)) z v3 tt Z w3)
+    let l = last 10 tt z (div binary64 (K 1) (K 23)) Z tt in
+    rw l.2 (near-in binary64 (coefficient 0) (fin false 1 (negsuc 3)) (fin false 15 (negsuc 3)) (fin false 17 (negsuc 3)) (mul binary64 z l.0) tt (mul_in binary64 z-max (K 1) (fin false 1 (negsuc 3)) z l.0 tt Z l.1))
 
 -- ---- e * H and the rest
 abbrev pub s-of : Float → Float

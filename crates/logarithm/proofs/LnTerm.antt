@@ -2,7 +2,7 @@
 use mathlib.Core.Path.{◌≡◌, refl, sym, ap, ◌∙◌, subst}
 use mathlib.Core.Logic.{inl, inr}
 use Prim.Native.Nat.{ℕ, zero, suc, ◌+◌, ◌-◌, ◌*◌, ◌/◌, ◌^◌, ◌≤◌, ◌<◌}
-use native.Mathlib.Nat.{le_refl, le_trans, le_of_eq, lt_of_lt_of_le, le_of_suc-le-suc, not-suc-le-zero, eq-or-lt_of_le, zero-lt-suc, mul-one, mul_comm, mul_assoc, mul-add, add-mul, mul-mul-mul_comm, mul-pos, mul-le-mul_left, mul-le-mul_right}
+use native.Mathlib.Nat.{le_refl, le_trans, le_of_eq, lt_of_lt_of_le, eq-or-lt_of_le, zero-lt-suc, mul-one, mul_comm, mul_assoc, mul-add, add-mul, mul-mul-mul_comm, mul-pos, mul-le-mul_left, mul-le-mul_right}
 use native.Mathlib.Omega.{arith}
 use mathlib.Core.Bool.{Bool, true, false, not, ◌&&◌, true≢false}
 use borrow.Author.Tests.{le-ltb, lt-ltb}
@@ -17,19 +17,11 @@ use lib.Ieee.Positive.{positive, num, den, den_pos, between, own_value, value_po
 use lib.Ieee.Scale.{finite, round_same}
 use Rattle.arith.specs.Bounds.{negative, Within}
 use Rattle.logarithm.specs.Ln.{series, whole}
+use Rattle.arith.specs.Lists.{every}
 use Rattle.arith.proofs.Order as order
-use Rattle.arith.proofs.Within.{bound, upper, mul_in, add-in, within-finite, abs-round, neg-round, negative-round}
-use Rattle.logarithm.proofs.LnSize.{s-of}
+use Rattle.arith.proofs.Within.{bound, sizes, upper, mul_in, add-in, within-finite, abs-round, neg-round, negative-round}
+use Rattle.logarithm.proofs.LnSize.{s-of, coefficient}
 use Rattle.arith.proofs.Mono.{unlike-plus}
-
--- ---- a test at each number below n
-abbrev pub each : (ℕ → Bool) → ℕ → Bool
-each p zero = true
-each p (suc n) = p n && each p n
-
-pub each_at : (p : ℕ → Bool) (n k : ℕ) → k < n → T (each p n) → T (p k)
-each_at p zero k h t = absurd (not-suc-le-zero h)
-each_at p (suc n) k h t = elim (eq-or-lt_of_le (le_of_suc-le-suc h)) [ inl e ↦ subst (λ (m : ℕ). T (p m)) (sym e) (and_l (p n) (each p n) t) | inr l ↦ each_at p n k l (and_r (p n) (each p n) t) ]
 
 -- ---- x is at most x' in size, and x' is from +0 to b
 record Grows (b x x' : Float) : Type 0 where
@@ -43,16 +35,10 @@ plus-of (inf s) F n = F
 plus-of (fin s m e) F n = subst (λ (b : Bool). T (not b)) (sym n) tt
 
 own : (b x : Float) → T (bound x) → T (le x b) → Within b x
-own b (fin false m e) p h = h
-own b nan p h = elim p [ ]
-own b (inf _) p h = elim p [ ]
-own b (fin true m e) p h = elim p [ ]
+own b x p = sizes (λ x y. T (le x b) → Within b x) (λ m n e d h. h) x x (and_i (bound x) (bound x) p p)
 
 itself : (x : Float) → T (bound x) → T (le x x)
-itself (fin false m e) p = order.reflexive (fin false m e) (unfold is_nan in tt)
-itself nan p = elim p [ ]
-itself (inf _) p = elim p [ ]
-itself (fin true m e) p = elim p [ ]
+itself x p = sizes (λ x y. T (le x x)) (λ m n e d. order.reflexive (fin false m e) (unfold is_nan in tt)) x x (and_i (bound x) (bound x) p p)
 
 same : (b x : Float) → T (bound x && le x b) → Grows b x x
 same b x t = let p = and_l (bound x) (le x b) t in record { plus = p; under = own x x p (itself x p); small = and_r (bound x) (le x b) t }
@@ -72,23 +58,11 @@ module _ (op : Float → Float → Float) (op-plus : (x y : Float) → T (bound 
 
 mul-plus : (x y : Float) → T (bound x) → T (bound y) → negative (mul binary64 x y) ≡ false
 unfolding mul
-mul-plus (fin false m e) (fin false n d) p q = negative-round binary64 false (m * up e * (n * up d)) (down e * down d)
-mul-plus nan y p q = elim p [ ]
-mul-plus (inf _) y p q = elim p [ ]
-mul-plus (fin false m e) nan p q = elim q [ ]
-mul-plus (fin false m e) (inf _) p q = elim q [ ]
-mul-plus (fin false m e) (fin true n d) p q = elim q [ ]
-mul-plus (fin true m e) y p q = elim p [ ]
+mul-plus x y p q = sizes (λ x y. negative (mul binary64 x y) ≡ false) (λ m n e d. negative-round binary64 false (m * up e * (n * up d)) (down e * down d)) x y (and_i (bound x) (bound y) p q)
 
 add-plus : (x y : Float) → T (bound x) → T (bound y) → negative (add binary64 x y) ≡ false
 unfolding add
-add-plus (fin false m e) (fin false n d) p q = negative-round binary64 false (m * up e * down d + n * up d * down e) (down e * down d)
-add-plus nan y p q = elim p [ ]
-add-plus (inf _) y p q = elim p [ ]
-add-plus (fin false m e) nan p q = elim q [ ]
-add-plus (fin false m e) (inf _) p q = elim q [ ]
-add-plus (fin false m e) (fin true n d) p q = elim q [ ]
-add-plus (fin true m e) y p q = elim p [ ]
+add-plus x y p q = sizes (λ x y. negative (add binary64 x y) ≡ false) (λ m n e d. negative-round binary64 false (m * up e * down d + n * up d * down e) (down e * down d)) x y (and_i (bound x) (bound y) p q)
 
 mul-grows : (b c d x x' y y' : Float) → T (finite d) → T (bound b && bound c && le (mul binary64 b c) d) → Grows b x x' → Grows c y y' → Grows d (mul binary64 x y) (mul binary64 x' y')
 mul-grows = grows (mul binary64) mul-plus (mul_in binary64)
@@ -106,20 +80,17 @@ two = fin false 1 (pos 1)
 abbrev z-max : Float
 z-max = fin false 1 (negsuc 3)
 
-abbrev coefficient : ℕ → Float
-coefficient n = div binary64 (whole 1) (whole (2 * n + 1))
-
 abbrev at_most_one : ℕ → Bool
 at_most_one n = bound (coefficient n) && le (coefficient n) one
 
-series-grows : (n : ℕ) → T (each at_most_one n) → (z z' q q' : Float) → Grows z-max z z' → Grows two q q' → Grows two (series n z q) (series n z' q')
-unfolding series
+series-grows : (n : ℕ) → T (every n at_most_one) → (z z' q q' : Float) → Grows z-max z z' → Grows two q q' → Grows two (series n z q) (series n z' q')
+unfolding series every
 series-grows zero t z z' q q' Z Q = Q
 series-grows (suc n) t z z' q q' Z Q =
     let c = coefficient n in
     let eighth = fin false 1 (negsuc 2) in
-    series-grows n (and_r (at_most_one n) (each at_most_one n) t) z z' (add binary64 c (mul binary64 z q)) (add binary64 c (mul binary64 z' q')) Z
-    (add-grows one eighth two c c (mul binary64 z q) (mul binary64 z' q') tt (unfold add le in tt) (same one c (and_l (at_most_one n) (each at_most_one n) t)) (mul-grows z-max two eighth z z' q q' tt (unfold mul le in tt) Z Q))
+    series-grows n (and_l (every n at_most_one) (at_most_one n) t) z z' (add binary64 c (mul binary64 z q)) (add binary64 c (mul binary64 z' q')) Z
+    (add-grows one eighth two c c (mul binary64 z q) (mul binary64 z' q') tt (unfold add le in tt) (same one c (and_r (every n at_most_one) (at_most_one n) t)) (mul-grows z-max two eighth z z' q q' tt (unfold mul le in tt) Z Q))
 
 -- ---- (2 × s) × q grows with s, from 0 to 1/4
 abbrev s-max : Float
@@ -134,7 +105,7 @@ product s = mul binary64 (mul binary64 (whole 2) s) (q-of s)
 q-grows : (s s' : Float) → Grows s-max s s' → Grows two (q-of s) (q-of s')
 q-grows s s' g =
     let c = div binary64 (whole 1) (whole 23) in
-    series-grows 11 (unfold div le of_int in tt) (mul binary64 s s) (mul binary64 s' s') c c (mul-grows s-max s-max z-max s s' s s' tt (unfold mul le in tt) g g) (same two c (unfold div le of_int in tt))
+    series-grows 11 (unfold every div le of_int in tt) (mul binary64 s s) (mul binary64 s' s') c c (mul-grows s-max s-max z-max s s' s s' tt (unfold mul le in tt) g g) (same two c (unfold div le of_int in tt))
 
 twice-grows : (s s' : Float) → Grows s-max s s' → Grows one (mul binary64 (whole 2) s) (mul binary64 (whole 2) s')
 twice-grows s s' g = mul-grows two s-max one (whole 2) (whole 2) s s' tt (unfold mul le in tt) (same two (whole 2) (unfold le of_int in tt)) g
@@ -145,33 +116,17 @@ product-grows s s' g = mul-grows one two two (mul binary64 (whole 2) s) (mul bin
 -- and it is odd
 square : (x : Float) → T (bound x) → mul binary64 (neg x) (neg x) ≡ mul binary64 x x
 unfolding mul neg
-square (fin false m e) p = refl
-square nan p = elim p [ ]
-square (inf _) p = elim p [ ]
-square (fin true m e) p = elim p [ ]
+square x p = sizes (λ x y. mul binary64 (neg x) (neg x) ≡ mul binary64 x x) (λ m n e d. refl) x x (and_i (bound x) (bound x) p p)
 
-neg-mul : (x y : Float) → T (bound x) → T (bound y) → mul binary64 (neg x) y ≡ neg (mul binary64 x y)
+-- the sign of a product
+neg-mul : (x y : Float) → T (bound x) → T (bound y) → (mul binary64 (neg x) y ≡ neg (mul binary64 x y)) × (mul binary64 x (neg y) ≡ neg (mul binary64 x y))
 unfolding mul neg
-neg-mul (fin false m e) (fin false n d) p q = sym (neg-round binary64 (m * up e * (n * up d)) (down e * down d))
-neg-mul nan y p q = elim p [ ]
-neg-mul (inf _) y p q = elim p [ ]
-neg-mul (fin false m e) nan p q = elim q [ ]
-neg-mul (fin false m e) (inf _) p q = elim q [ ]
-neg-mul (fin false m e) (fin true n d) p q = elim q [ ]
-neg-mul (fin true m e) y p q = elim p [ ]
-
-mul-neg : (x y : Float) → T (bound x) → T (bound y) → mul binary64 x (neg y) ≡ neg (mul binary64 x y)
-unfolding mul neg
-mul-neg (fin false m e) (fin false n d) p q = sym (neg-round binary64 (m * up e * (n * up d)) (down e * down d))
-mul-neg nan y p q = elim p [ ]
-mul-neg (inf _) y p q = elim p [ ]
-mul-neg (fin false m e) nan p q = elim q [ ]
-mul-neg (fin false m e) (inf _) p q = elim q [ ]
-mul-neg (fin false m e) (fin true n d) p q = elim q [ ]
-mul-neg (fin true m e) y p q = elim p [ ]
+neg-mul x y p q =
+    sizes (λ x y. (mul binary64 (neg x) y ≡ neg (mul binary64 x y)) × (mul binary64 x (neg y) ≡ neg (mul binary64 x y)))
+    (λ m n e d. let r = sym (neg-round binary64 (m * up e * (n * up d)) (down e * down d)) in (r, r)) x y (and_i (bound x) (bound y) p q)
 
 product-neg : (s : Float) → Grows s-max s s → product (neg s) ≡ neg (product s)
-product-neg s g = rw (square s g.plus, mul-neg (whole 2) s (unfold of_int in tt) g.plus) (neg-mul (mul binary64 (whole 2) s) (q-of s) (twice-grows s s g).plus (q-grows s s g).plus)
+product-neg s g = rw (square s g.plus, (neg-mul (whole 2) s (unfold of_int in tt) g.plus).1) (neg-mul (mul binary64 (whole 2) s) (q-of s) (twice-grows s s g).plus (q-grows s s g).plus).0
 
 -- ---- fractions of 2 ^ j, each of 2 ^ i of the format's smallest values
 module _ (i j : ℕ) (ij : i + j ≡ 1074) where
@@ -405,13 +360,7 @@ size_mono s a b h l = upper (product (quotient s b)) (product (quotient s a)) (s
 
 across : (x y : Float) → T (bound x) → T (bound y) → T (le (neg x) y)
 unfolding le neg
-across (fin false m e) (fin false n d) p q = order.→le true (m * up e * down d) false (n * up d * down e) tt
-across nan y p q = elim p [ ]
-across (inf _) y p q = elim p [ ]
-across (fin false m e) nan p q = elim q [ ]
-across (fin false m e) (inf _) p q = elim q [ ]
-across (fin false m e) (fin true n d) p q = elim q [ ]
-across (fin true m e) y p q = elim p [ ]
+across x y p q = sizes (λ x y. T (le (neg x) y)) (λ m n e d. order.→le true (m * up e * down d) false (n * up d * down e) tt) x y (and_i (bound x) (bound y) p q)
 
 none : (a b : ℕ) → a + b ≤ 0 → 0 < b → ⊥
 none a b h l = omega arith

@@ -7,7 +7,6 @@ use mathlib.Core.Path.{◌≡◌, refl}
 use mathlib.Core.List.{List}
 use Prim.Native.Nat.{ℕ, ◌≤◌}
 use lib.Dec.{T, leb, leb→le}
-use lib.ListN.{length}
 use lib.Ieee.Fits.{and_l}
 use Rattle.arith.specs.Lists.{every, filled}
 use Rattle.dimensions.specs.declared.DimensionInfo.{DimensionInfo}
@@ -19,7 +18,6 @@ use Rattle.history_rows.specs.Rows.{whole_rows, row_at, row_count, older_of, rec
 use Rattle.history_rows.specs.Tests.{check_of}
 use Rattle.history_rows.proofs.Border.{part-start, part-rows}
 use Rattle.history_rows.proofs.Passed.{Passed, passes, passed}
-use Rattle.history_rows.proofs.Recent.{older-inside}
 
 -- a first answer without a value, and one after it
 pub and-ok : {A : Type 0} (r : Result Unit Refusal) (x y : A) → result_and r (Ok x) ≡ Ok y → (r ≡ Ok tt) × (y ≡ x)
@@ -51,13 +49,11 @@ pub record Recent (n k : ℕ) (h : List ℕ) (r : RecentRows) : Type 0 where
   pub whole : T (whole_rows n h)
   pub start : r.start ≡ older_of n h
   pub rows : r.rows ≡ row_count n (recent_of n h)
-  pub inside : r.start ≤ length h
 
 pub recent : (n : ℕ) (dims : List DimensionInfo) (k : ℕ) (h : List ℕ) (r : RecentRows) → asked_of n dims k h ≡ Ok tt → r ≡ recent_part n h → Recent n k h r
 recent n dims k h r e p =
     let o = opened n dims k h e in
-    let s = part-start n h r p o.0 in
-    record { slots = o.0; few = o.1; whole = o.2; start = s; rows = part-rows n h r p o.0; inside = rw (s) (older-inside n h) }
+    record { slots = o.0; few = o.1; whole = o.2; start = part-start n h r p o.0; rows = part-rows n h r p o.0 }
 
 -- what the mapping is where nothing is refused
 pub mapping-is : (n : ℕ) (dims : List DimensionInfo) (k : ℕ) (h : List ℕ) → asked_of n dims k h ≡ Ok tt → mapping_of n dims k h ≡ Ok (filled None 20 (mapped_of n dims k (row_at n (recent_of n h) 0)))

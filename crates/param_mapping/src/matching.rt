@@ -5,9 +5,10 @@ ghost use Rattle.param_mapping.specs.Mapping.{first_entry, entries_of, is_mapped
 ghost use Rattle.param_mapping.specs.MappingParts.{beats_of, better_of};
 ghost use Rattle.history_rows.specs.Rows.{width_of, row_at};
 
-use dimensions::DimensionInfo;
+use dimensions::Dimensions;
 use distribution::Distribution;
 use refusal::Refusal;
+use slots::{ROW_HEAD, SLOT_WORDS};
 
 // Whether that is the id of a dimension.
 fn is_mapped(id: u64, m: Option<u64>) -> bool
@@ -65,66 +66,59 @@ fn first_entry(n: usize, row: &[u64], before: &[Option<u64>], d: Distribution) -
 {
     let mut best = None;
     for s in 0..n {
-        let at = 3 + 8 * s;
-        best = better(before, d, &row[at..at + 8], best);
+        let at = ROW_HEAD + SLOT_WORDS * s;
+        best = better(before, d, &row[at..at + SLOT_WORDS], best);
     }
     best
 }
 
-// The ids of k dimensions in a row.
-fn mapped(n: usize, dims: &[DimensionInfo; 20], k: usize, row: &[u64]) -> [Option<u64>; 20]
-    requires { (n ≤ 20) × (k ≤ 20) × (length row.now ≡ width_of n) }
-    ensures { result ≡ filled None 20 (mapped_of n dims.now k row.now) }
+// The ids of the dimensions in a row.
+fn mapped(n: usize, dims: &Dimensions, row: &[u64]) -> [Option<u64>; 20]
+    requires { (n ≤ 20) × (dims.now.count ≤ 20) × (length row.now ≡ width_of n) }
+    ensures { result ≡ filled None 20 (mapped_of n dims.now.list dims.now.count row.now) }
 {
     let mut out = [None; 20];
-    for j in 0..k {
-        let dim = dims[j];
+    for j in 0..dims.count {
+        let dim = dims.list[j];
         out[j] = first_entry(n, row, &out[..j], dim.distribution);
     }
     out
 }
 
 // The mapping from the first of m recent rows; without one nothing is found.
-fn recent_mapping(
-    n: usize,
-    dims: &[DimensionInfo; 20],
-    k: usize,
-    m: usize,
-    r: &[u64],
-) -> [Option<u64>; 20]
-    requires { (n ≤ 20) × (k ≤ 20) × (length r.now ≡ m * width_of n) }
-    ensures { result ≡ filled None 20 (mapped_of n dims.now k (row_at n r.now 0)) }
+fn recent_mapping(n: usize, dims: &Dimensions, m: usize, r: &[u64]) -> [Option<u64>; 20]
+    requires { (n ≤ 20) × (dims.now.count ≤ 20) × (length r.now ≡ m * width_of n) }
+    ensures { result ≡ filled None 20 (mapped_of n dims.now.list dims.now.count (row_at n r.now 0)) }
 {
     if m == 0 {
         return [None; 20];
     }
-    mapped(n, dims, k, &r[..3 + 8 * n])
+    mapped(n, dims, &r[..ROW_HEAD + SLOT_WORDS * n])
 }
 
 // The dimensions, and then the history's tests.
 #[tactic(auto, unfolding(crate::specs::Mapping::asked_of))]
-fn check(slots: usize, dims: [DimensionInfo; 20], k: usize, h: &[u64]) -> Result<(), Refusal>
-    ensures { result ≡ asked_of slots dims k h.now }
+fn check(slots: usize, dims: Dimensions, h: &[u64]) -> Result<(), Refusal>
+    ensures { result ≡ asked_of slots dims.list dims.count h.now }
 {
-    if !dimensions::dimensions_ok(dims, k) {
+    if !dimensions::dimensions_ok(dims) {
         return Err(Refusal::OutOfDomain);
     }
     history_rows::check(slots, h)
 }
 
-// The ids of k dimensions, from the first recent row of a history. A dimension may have none, and what lies past them has none.
+// The ids of the dimensions, from the first recent row of a history. A dimension may have none, and what lies past them has none.
 pub fn establish_param_mapping(
     slots: usize,
-    dims: [DimensionInfo; 20],
-    k: usize,
+    dims: Dimensions,
     h: &[u64],
 ) -> Result<[Option<u64>; 20], Refusal>
-    ensures { result ≡ mapping_of slots dims k h.now }
+    ensures { result ≡ mapping_of slots dims.list dims.count h.now }
 {
-    check(slots, dims, k, h)?;
+    check(slots, dims, h)?;
     let recent = history_rows::recent_part(slots, h);
     let start = recent.start;
     let m = recent.rows;
-    let ids = recent_mapping(slots, &dims, k, m, &h[start..]);
+    let ids = recent_mapping(slots, &dims, m, &h[start..]);
     Ok(ids)
 }

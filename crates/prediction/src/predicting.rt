@@ -8,12 +8,13 @@ use crate::Posterior;
 use gp_model::Model;
 use refusal::Refusal;
 
-// The kernel of a point and each of the n rows of a table of d columns.
+// The kernel of a point and each of the first n rows of a table of its columns.
 #[tactic(auto, unfolding(arith::specs::Lists::grown))]
-fn kernel_vector(x: &[f64], n: usize, d: usize, lengthscales: &[f64], p: &[f64]) -> [f64; 100]
-    requires { (n ≤ 100) × (n * d ≤ length x.now) }
-    ensures { result ≡ padded 100 (kernel_vector_of x.now n d lengthscales.now p.now) }
+fn kernel_vector(x: &[f64], n: usize, lengthscales: &[f64], p: &[f64]) -> [f64; 100]
+    requires { (n ≤ 100) × (n * length p.now ≤ length x.now) }
+    ensures { result ≡ padded 100 (kernel_vector_of x.now n (length p.now) lengthscales.now p.now) }
 {
+    let d = p.len();
     let mut out = [0.0; 100];
     for i in 0..n {
         let start = i * d;
@@ -37,8 +38,7 @@ fn posterior(m: &Model, p: &[f64]) -> Posterior
     ensures { result ≡ posterior_at m.now p.now }
 {
     let n = m.n;
-    let d = m.d;
-    let k = kernel_vector(&m.x_train, n, d, &m.lengthscales[..d], p);
+    let k = kernel_vector(&m.x_train, n, &m.lengthscales[..m.d], p);
     let mean = dot(&k, &m.alpha, n);
     let v = factor::solve(&m.cholesky, &k, n).unwrap();
     let explained = dot(&k, &v, n);

@@ -5,7 +5,7 @@ ghost use Rattle.settings.specs.Settings.{settings_ok};
 ghost use Rattle.proposal.specs.Proposal.{from_point, candidate_of, compute_candidate_of};
 
 use crate::{points, walking};
-use dimensions::DimensionInfo;
+use dimensions::Dimensions;
 use distribution::ParamValue;
 use history_view::View;
 use refusal::Refusal;
@@ -13,16 +13,12 @@ use rng_util::Draw;
 use settings::Settings;
 
 // The continuous dimensions decoded from a point, the choices at random.
-fn from_point(
-    dims: [DimensionInfo; 20],
-    k: usize,
-    p: Draw<[f64; 20]>,
-) -> Result<Draw<[ParamValue; 20]>, Refusal>
-    requires { (k ≤ 20) × (p.drawn ≤ 200000) }
-    ensures { result ≡ from_point dims k p }
+fn from_point(dims: Dimensions, p: Draw<[f64; 20]>) -> Result<Draw<[ParamValue; 20]>, Refusal>
+    requires { (dims.count ≤ 20) × (p.drawn ≤ 200000) }
+    ensures { result ≡ from_point dims.list dims.count p }
 {
     let point = p.value;
-    let v = walking::walk(Some(point), dims, k, p.next)?;
+    let v = walking::walk(Some(point), dims, p.next)?;
     let value = v.value;
     Ok(Draw {
         value,
@@ -42,20 +38,19 @@ fn asks_model(reached: bool, d: usize) -> bool
 #[tactic(auto, using(crate::proofs::Numbers::point_few), unfolding(crate::specs::Proposal::candidate_of))]
 fn candidate(
     s: Settings,
-    dims: [DimensionInfo; 20],
-    k: usize,
+    dims: Dimensions,
     word: u64,
     v: View,
 ) -> Result<Draw<[ParamValue; 20]>, Refusal>
-    requires { (k ≤ 20) × (0 < word) × (s.n_candidates ≤ 10000) × Counts v.training }
-    ensures { result ≡ candidate_of s dims k word v }
+    requires { (dims.count ≤ 20) × (0 < word) × (s.n_candidates ≤ 10000) × Counts v.training }
+    ensures { result ≡ candidate_of s dims.list dims.count word v }
 {
     let t = v.training;
     if asks_model(v.reached, t.d) {
         let p = points::point_for(t, s.noise_variance, s.n_candidates, word);
-        return from_point(dims, k, p);
+        return from_point(dims, p);
     }
-    walking::walk(None, dims, k, word)
+    walking::walk(None, dims, word)
 }
 
 // Whether settings are in range and a word is not 0.
@@ -69,16 +64,15 @@ fn takes(s: Settings, word: u64) -> bool
 #[tactic(auto, using(crate::proofs::Numbers::candidate_asks), unfolding(crate::specs::Proposal::compute_candidate_of))]
 pub fn compute_candidate(
     s: Settings,
-    dims: [DimensionInfo; 20],
-    k: usize,
+    dims: Dimensions,
     word: u64,
     h: &[u64],
 ) -> Result<Draw<[ParamValue; 20]>, Refusal>
-    ensures { result ≡ compute_candidate_of s dims k word h.now }
+    ensures { result ≡ compute_candidate_of s dims.list dims.count word h.now }
 {
     if !takes(s, word) {
         return Err(Refusal::OutOfDomain);
     }
-    let view = history_view::view_of(s.slots as usize, s.n_startup_trials, dims, k, h)?;
-    candidate(s, dims, k, word, view)
+    let view = history_view::view_of(s.slots as usize, s.n_startup_trials, dims, h)?;
+    candidate(s, dims, word, view)
 }

@@ -3,7 +3,7 @@ ghost use Rattle.std.specs.Prelude.{◌≡◌, cond, ◌≤◌, ◌<◌};
 ghost use Rattle.distribution.specs.Shape.{continuous_of};
 ghost use Rattle.proposal.specs.Values.{decode_of, coordinate_of, step_of, walked_of};
 
-use dimensions::DimensionInfo;
+use dimensions::{DimensionInfo, Dimensions};
 use distribution::{Distribution, ParamValue};
 use refusal::Refusal;
 use rng_util::Draw;
@@ -50,22 +50,21 @@ fn coordinate(point: &Option<[f64; 20]>, c: usize) -> Option<f64>
     }
 }
 
-// The values of k dimensions.
+// The values of the dimensions.
 pub(crate) fn walk(
     point: Option<[f64; 20]>,
-    dims: [DimensionInfo; 20],
-    k: usize,
+    dims: Dimensions,
     word: u64,
 ) -> Result<Draw<[ParamValue; 20]>, Refusal>
-    requires { k ≤ 20 }
-    ensures { result ≡ walked_of point dims k word }
+    requires { dims.count ≤ 20 }
+    ensures { result ≡ walked_of point dims.list dims.count word }
 {
     let mut value = [ParamValue::Float(0.0); 20];
     let mut drawn = 0;
     let mut next = word;
     let mut c = 0;
-    for j in 0..k {
-        let dim = dims[j];
+    for j in 0..dims.count {
+        let dim = dims.list[j];
         let distribution = dim.distribution;
         let r = step(dim, coordinate(&point, c), next)?;
         value[j] = r.value;

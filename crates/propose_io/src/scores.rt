@@ -2,6 +2,7 @@
 // stored it.
 ghost use Rattle.std.specs.Prelude.{◌<◌, ◌≤◌, length};
 
+use dimensions::Dimensions;
 use gp_model::Model;
 use history::Training;
 use refusal::Refusal;
@@ -38,11 +39,9 @@ fn is_same(a: &[f64; 20], b: &[f64; 20]) -> bool {
     a.iter().zip(b).all(|(x, y)| arith::word_of_float(*x) == arith::word_of_float(*y))
 }
 
-// The expected improvement at a point of d columns.
-fn score(m: &Model, x: &[f64; 20], d: usize) -> Result<f64, Refusal>
-    requires { d ≤ 20 }
-{
-    let p = prediction::predict(*m, &x[..d])?;
+// The expected improvement at a point.
+fn score(m: &Model, x: &[f64]) -> Result<f64, Refusal> {
+    let p = prediction::predict(*m, x)?;
     Ok(acquisition::expected_improvement(p.mean, p.std, m.f_best))
 }
 
@@ -63,7 +62,7 @@ fn put_points(
     for i in 0..candidates {
         let Candidate { x, next } = search::draw_point(d, word)?;
         let stored = !found && is_same(&x, &best);
-        let words = point_words(trial, i, score(m, &x, d)?, stored, &x);
+        let words = point_words(trial, i, score(m, &x[..d])?, stored, &x);
         if !put_words(rt, &words[..4 + d]) {
             return Ok(false);
         }
@@ -85,8 +84,11 @@ fn fit(t: &Training, noise_variance: f64) -> Result<Model, Refusal>
 fn put_trial(rt: HostRuntime, s: &Sampler, trial: u64, h: &[u64]) -> bool {
     let settings = s.settings;
     let slots = settings.slots as usize;
-    let Ok(v) = history_view::view_of(slots, settings.n_startup_trials, s.dimensions, s.n_dims, h)
-    else {
+    let dims = Dimensions {
+        list: s.dimensions,
+        count: s.n_dims,
+    };
+    let Ok(v) = history_view::view_of(slots, settings.n_startup_trials, dims, h) else {
         return true;
     };
     let t = v.training;

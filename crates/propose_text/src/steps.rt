@@ -6,6 +6,7 @@ ghost use Rattle.text_laws.specs.declared.Stage.{Stage};
 
 use sampler_laws::Sampled;
 use settings::Settings;
+use slots::{ROW_HEAD, SLOT_WORDS};
 use text_laws::{Event, Reader, Stage, Step};
 
 // Another line is awaited, and nothing is written.
@@ -102,7 +103,7 @@ fn row_line(r: Reader, line: &[u8], history: &mut [u64; 8192]) -> Step
     if slots > 20 {
         return ending(14, Reader { count: at, ..r });
     }
-    let k = 3 + 8 * slots as usize;
+    let k = ROW_HEAD + SLOT_WORDS * slots as usize;
     if !propose_lines::read_words(line, k, history, at) {
         return ending(14, Reader { count: at, ..r });
     }

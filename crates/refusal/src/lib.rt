@@ -2,7 +2,7 @@
 #![tactic(auto)]
 
 ghost use Rattle.std.specs.Prelude.{◌≡◌};
-ghost use Rattle.refusal.specs.Numbers.{cause_number, number_of};
+ghost use Rattle.refusal.specs.Numbers.{cause_number};
 
 /// The causes of document 01, in the order of their numbers.
 #[derive(Clone, Copy, Debug, PartialEq, Eq)]
@@ -43,15 +43,5 @@ impl Refusal {
         ensures { result ≡ cause_number self }
     {
         self as u64
-    }
-}
-
-/// The number of an answer: 0 where it is accepted, else its refusal's.
-pub fn number<T>(answer: &Result<T, Refusal>) -> u64
-    ensures { result ≡ number_of answer.now }
-{
-    match answer {
-        Ok(_) => 0,
-        Err(refusal) => refusal.number(),
     }
 }

@@ -1,12 +1,12 @@
 // Whether a sampler is well-formed.
-ghost use Rattle.std.specs.Prelude.{◌≡◌, not, ◌&&◌, ◌||◌, ◌≤◌, eqb, leb, length};
+ghost use Rattle.std.specs.Prelude.{◌≡◌, not, ◌&&◌, ◌||◌, ◌≤◌, eqb, leb, length, take};
 ghost use Rattle.std.specs.List.{list_all, zip};
 ghost use Rattle.settings.specs.Settings.{settings_ok};
 ghost use Rattle.sampler_state.specs.State.{same_trial, trials_once};
 ghost use Rattle.sampler_state.specs.State.{stored_ok, progress_ok, place_ok, sampler_ok};
 
 use crate::{Place, Sampler, places};
-use dimensions::DimensionInfo;
+use dimensions::{DimensionInfo, Dimensions};
 use distribution::{Distribution, IntDistribution, ParamValue};
 
 // Whether an int's value lies between its ends.
@@ -107,9 +107,17 @@ fn trials_once(places: &[Option<Place>; 32]) -> bool
 
 // Whether its settings are in range, its word is not 0, and there is a dimension when it is active.
 fn start_ok(s: &Sampler) -> bool
-    ensures { result ≡ (settings_ok s.now.settings && not (eqb s.now.word 0) && (not s.now.active || leb 1 s.now.n_dims)) }
+    ensures { result ≡ (settings_ok s.now.settings && not (eqb s.now.word 0) && (not s.now.active || leb 1 s.now.dimensions.count)) }
 {
-    settings::in_range(s.settings) && s.word != 0 && (!s.active || 1 <= s.n_dims)
+    settings::in_range(s.settings) && s.word != 0 && (!s.active || 1 <= s.dimensions.count)
+}
+
+// The dimensions themselves.
+fn listed(dims: &Dimensions) -> &[DimensionInfo]
+    requires { dims.now.count ≤ 20 }
+    ensures { (result.now ≡ take dims.now.count dims.now.list) × (length result.now ≡ dims.now.count) }
+{
+    &dims.list[..dims.count]
 }
 
 // Whether a sampler is well-formed.
@@ -117,12 +125,13 @@ fn start_ok(s: &Sampler) -> bool
 pub fn sampler_ok(s: &Sampler) -> bool
     ensures { result ≡ sampler_ok s.now }
 {
-    if !start_ok(s) || !dimensions::dimensions_ok(s.dimensions, s.n_dims) {
+    if !start_ok(s) || !dimensions::dimensions_ok(s.dimensions) {
         return false;
     }
+    let dimensions = listed(&s.dimensions);
     let judge = Judge {
         active: s.active,
-        dimensions: &s.dimensions[..s.n_dims],
+        dimensions,
     };
     judge.places_ok(&s.places) && trials_once(&s.places)
 }

@@ -74,6 +74,7 @@ fn in_domain(m: &Model, n_dims: usize, word: u64) -> bool
 }
 
 // The earliest point, of those drawn, with the highest expected improvement: 11 outside its domain.
+// Kept: `n_dims` beside the model, as in the Rust: another count than the model's is 11.
 pub fn optimize_acquisition(
     m: Model,
     n_dims: usize,
@@ -89,7 +90,7 @@ pub fn optimize_acquisition(
     let best_x = halves(m.d);
     let start = Search {
         word,
-        best_ei: -1.0 / 0.0,
+        best_ei: f64::NEG_INFINITY,
         best_x,
     };
     let lent = Lent {

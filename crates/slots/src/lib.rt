@@ -3,4 +3,9 @@
 
 pub mod slot;
 
-pub use slot::{has_id, is_present, read, reads_equal, same_id, slot_ok, value};
+pub use slot::{has_id, is_present, read, reads_equal, same_id, slot_ok, value, word};
+
+// The words of a row before its slots, and those of each slot.
+pub const ROW_HEAD: usize = 3;
+
+pub const SLOT_WORDS: usize = 8;

@@ -6,10 +6,10 @@ ghost use Rattle.slots.specs.Slot.{present, slot_read, taken_read, slot_ok, same
 use distribution::{Distribution, ParamValue};
 
 // Word k, or 0 past the end.
-fn word(slot: &[u64], k: usize) -> u64
-    ensures { result ≡ get_or slot.now k 0 }
+pub fn word(words: &[u64], k: usize) -> u64
+    ensures { result ≡ get_or words.now k 0 }
 {
-    slot.get(k).copied().unwrap_or(0)
+    words.get(k).copied().unwrap_or(0)
 }
 
 pub fn is_present(slot: &[u64]) -> bool

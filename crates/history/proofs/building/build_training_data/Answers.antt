@@ -1,6 +1,5 @@
 -- `history::building::build_training_data` meets its contract. Assumes nothing.
 use mathlib.Core.Path.{◌≡◌, refl, sym, ap, ◌∙◌}
-use native.Mathlib.Omega.{arith}
 use Rattle.std.specs.Prelude.{None, Ok}
 use Rattle.std.proofs.lemmas.Result.{err_from_is_err_and}
 use Rattle.arith.specs.Lists.{filled}
@@ -15,32 +14,23 @@ use Rattle.history.proofs.building.build_training_data.Goals.{After-recent_part-
 
 -- the mapping's answer
 accepted : (c : After-recent_part-recent) → let a = c.args in
-    (asked_of a.slots a.dims a.k a.h.now ≡ Ok tt) × (c.in_ok-mapping.mapping ≡ filled None 20 (mapped_of a.slots a.dims a.k (row_at a.slots (recent_of a.slots a.h.now) 0)))
+    (asked_of a.slots a.dims.list a.dims.count a.h.now ≡ Ok tt) × (c.in_ok-mapping.mapping ≡ filled None 20 (mapped_of a.slots a.dims.list a.dims.count (row_at a.slots (recent_of a.slots a.h.now) 0)))
 accepted c =
     let a = c.args in
-    mapping-accepted a.slots a.dims a.k a.h.now c.in_ok-mapping.mapping (sym c.establish_param_mapping.ensures ∙ c.in_ok-mapping.was)
+    mapping-accepted a.slots a.dims.list a.dims.count a.h.now c.in_ok-mapping.mapping (sym c.establish_param_mapping.ensures ∙ c.in_ok-mapping.was)
 
 pub returns-in_err-mapping : goal.returns-in_err-mapping
 unfolding training_of
 returns-in_err-mapping c =
     let a = c.args in
     let p = err_from_is_err_and c.from_residual.result c.from_residual.ensures.1 in
-    rw (p.1, p.2, mapping-refused a.slots a.dims a.k a.h.now _ (sym c.establish_param_mapping.ensures ∙ c.in_err-mapping.was))
+    rw (p.1, p.2, mapping-refused a.slots a.dims.list a.dims.count a.h.now _ (sym c.establish_param_mapping.ensures ∙ c.in_err-mapping.was))
 
 -- what is known of a history that is not refused, and of its recent rows
-known : (c : After-recent_part-recent) → let a = c.args in Recent a.slots a.k a.h.now c.recent_part-recent.result
+known : (c : After-recent_part-recent) → let a = c.args in Recent a.slots a.dims.count a.h.now c.recent_part-recent.result
 known c =
     let a = c.args in
-    recent a.slots a.dims a.k a.h.now c.recent_part-recent.result (accepted c).0 c.recent_part-recent.ensures
-
-pub offset_bounds-h-recent : goal.offset_bounds-h-recent
-offset_bounds-h-recent c = let l = (known (goal.at.offset_bounds-h-recent c).After-recent_part-recent).inside in omega arith
-
-pub slice_bounds-rows-count : goal.slice_bounds-rows-count
-slice_bounds-rows-count c = let l = (known (goal.at.slice_bounds-rows-count c).After-recent_part-recent).inside in omega arith
-
-pub slice_bounds-rows-start : goal.slice_bounds-rows-start
-slice_bounds-rows-start c = let l = (known (goal.at.slice_bounds-rows-start c).After-recent_part-recent).inside in omega arith
+    recent a.slots a.dims.list a.dims.count a.h.now c.recent_part-recent.result (accepted c).0 c.recent_part-recent.ensures.is
 
 pub invariant_of-rows : goal.invariant_of-rows
 invariant_of-rows c =
@@ -59,5 +49,5 @@ recent_training-requires c =
 pub returns : goal.returns
 returns c =
     let a = c.args in
-    ap Ok (c.recent_training.ensures ∙ ap (recent_training a.slots a.dims a.k) (recent-part a.slots a.h.now c.recent_part-recent.result.start (known (goal.at.returns c).After-recent_part-recent).start))
-    ∙ sym (training-is a.slots a.dims a.k a.h.now (accepted (goal.at.returns c).After-recent_part-recent).0)
+    ap Ok (c.recent_training.ensures ∙ ap (recent_training a.slots a.dims.list a.dims.count) (recent-part a.slots a.h.now c.recent_part-recent.result.start (known (goal.at.returns c).After-recent_part-recent).start))
+    ∙ sym (training-is a.slots a.dims.list a.dims.count a.h.now (accepted (goal.at.returns c).After-recent_part-recent).0)

@@ -21,13 +21,13 @@ loop-j-init c = c.new-places.ensures
 
 pub push-requires : goal.push-requires
 unfolding columns_of test
-push-requires c = places-room _ c.loop-j.j (test c.args.dims.now) (omega arith) c.loop-j.invariant
+push-requires c = places-room _ c.loop-j.j (test c.args.dims.now.list) (omega arith) c.loop-j.invariant
 
 pub loop-j-preserved : goal.loop-j-preserved
 unfolding columns_of test
 loop-j-preserved c =
     let l = c.loop-j in
-    let t = test c.args.dims.now in
+    let t = test c.args.dims.now.list in
     elim c.if-is_continuous.branch [
       | then-is_continuous w ↦ rw w.places-is (places-then _ l.j t (omega arith) l.invariant _ (sym c.is_continuous.ensures ∙ w.if-is_continuous.true) w.push.ensures)
       | else-is_continuous w ↦ rw w.places-is (places-else _ l.j t (omega arith) l.invariant (sym c.is_continuous.ensures ∙ w.if-is_continuous.false))

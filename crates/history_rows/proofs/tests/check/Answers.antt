@@ -1,12 +1,11 @@
 -- `history_rows::tests::check` meets its contract. Assumes nothing.
 use mathlib.Core.Path.{sym, ◌∙◌}
-use native.Mathlib.Omega.{arith}
 use lib.Ieee.Fits.{eq→eqb}
 use borrow.Author.Tests.{le-leb, lt-leb, ne_eqb, eq-eqb}
 use Rattle.history_rows.specs.Rows.{whole_rows}
 use Rattle.history_rows.specs.Tests.{check_of}
 use Rattle.history_rows.proofs.Passed.{check-recent}
-use Rattle.history_rows.proofs.Recent.{older-inside, recent-part, recent-whole}
+use Rattle.history_rows.proofs.Recent.{recent-part, recent-whole}
 use borrow.Author.Rules.{rules}
 use Rattle.history_rows.proofs.tests.check.Goals as goal
 use Rattle.history_rows.proofs.tests.check.Goals.{then-slots-lt1-via-then-slots-lt1, then-slots-lt1-via-else-slots-lt1+then-slots-gt20}
@@ -21,27 +20,6 @@ returns-then-slots-lt1 c = elim c.then-slots-lt1.branch [
 pub returns-then-h-slots-ne0 : goal.returns-then-h-slots-ne0
 unfolding check_of whole_rows
 returns-then-h-slots-ne0 c = rw (le-leb 1 _ c.if-slots-lt1.false, le-leb _ 20 c.if-slots-gt20.false, ne_eqb _ _ c.if-h-slots-ne0.true)
-
-pub offset_bounds-h-start : goal.offset_bounds-h-start
-offset_bounds-h-start c =
-    let a = c.args in
-    let l = older-inside a.slots a.h.now in
-    let e = c.older-start.ensures in
-    omega arith
-
-pub slice_bounds-recent-count : goal.slice_bounds-recent-count
-slice_bounds-recent-count c =
-    let a = c.args in
-    let l = older-inside a.slots a.h.now in
-    let e = c.older-start.ensures in
-    omega arith
-
-pub slice_bounds-recent-start : goal.slice_bounds-recent-start
-slice_bounds-recent-start c =
-    let a = c.args in
-    let l = older-inside a.slots a.h.now in
-    let e = c.older-start.ensures in
-    omega arith
 
 pub invariant_of-recent : goal.invariant_of-recent
 invariant_of-recent c =

@@ -17,15 +17,15 @@ returns-in_err-training c =
 pub overflow_mul-rows : goal.overflow_mul-rows
 overflow_mul-rows c =
     let a = c.args in
-    let t = training-accepted a.slots a.dims a.k a.h.now c.in_ok-training.training (sym c.build_training_data.ensures ∙ c.in_ok-training.was) in
-    let l = (opened a.slots a.dims a.k a.h.now t.0).0 in
+    let t = training-accepted a.slots a.dims.list a.dims.count a.h.now c.in_ok-training.training (sym c.build_training_data.ensures ∙ c.in_ok-training.was) in
+    let l = (opened a.slots a.dims.list a.dims.count a.h.now t.0).0 in
     omega arith
 
 pub overflow_add-rows : goal.overflow_add-rows
 overflow_add-rows c =
     let a = c.args in
-    let t = training-accepted a.slots a.dims a.k a.h.now c.in_ok-training.training (sym c.build_training_data.ensures ∙ c.in_ok-training.was) in
-    let l = (opened a.slots a.dims a.k a.h.now t.0).0 in
+    let t = training-accepted a.slots a.dims.list a.dims.count a.h.now c.in_ok-training.training (sym c.build_training_data.ensures ∙ c.in_ok-training.was) in
+    let l = (opened a.slots a.dims.list a.dims.count a.h.now t.0).0 in
     omega arith
 
 pub returns : goal.returns

@@ -1,6 +1,7 @@
 -- `lane_kernels::kernels::distance` meets its contract: before each turn each lane has the sum of the j columns passed. Assumes nothing.
 use mathlib.Core.Path.{refl}
 use native.Mathlib.Numerals.{add-one}
+use lib.ListN.{length}
 use lib.Ieee.{of_bits}
 use Rattle.lane_kernels.specs.Kernels.{distance_term}
 use Rattle.lanes.proofs.Summed.{summed-none, summed-more}
@@ -14,4 +15,4 @@ pub loop-j-preserved : goal.loop-j-preserved
 loop-j-preserved c =
     let g = c.args in
     let j = c.loop-j.j in
-    rw (add-one j) (summed-more j (distance_term g.points.now g.x.now g.d g.lengthscales.now g.i) _ c.loop-j.s c.squares-s.result (λ p h. refl) c.loop-j.invariant c.squares-s.ensures)
+    rw (add-one j) (summed-more j (distance_term g.points.now g.x.now (length g.lengthscales.now) g.lengthscales.now g.i) _ c.loop-j.s c.squares-s.result (λ p h. refl) c.loop-j.invariant c.squares-s.ensures)

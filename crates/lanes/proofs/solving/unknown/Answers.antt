@@ -1,31 +1,27 @@
 -- `lanes::solving::unknown` meets its contract: before each turn each lane has lost the k products passed. Assumes nothing.
-use Prim.Native.Nat.{ℕ, ◌+◌}
-use mathlib.Core.Path.{◌≡◌, refl, ap, ◌∙◌}
+use Prim.Native.Nat.{◌+◌}
+use mathlib.Core.Path.{◌≡◌, refl}
 use native.Mathlib.Numerals.{add-one}
 use native.Mathlib.Omega.{arith}
 use mathlib.Core.List.{[]}
 use lib.ListN.{get_or}
-use Rattle.factor.specs.Triangle.{at, entry, less_of}
+use Rattle.factor.specs.Triangle.{entry, less_of}
 use Rattle.lanes.specs.Rows.{cell}
-use Rattle.lanes.proofs.Less.{lost-more, lost-over, below-entry}
+use Rattle.lanes.proofs.Less.{lost-more, lost-over}
 use Rattle.lanes.proofs.solving.unknown.Goals as goal
 
 pub loop-k-init : goal.loop-k-init
 unfolding less_of
-loop-k-init c = let e : c.args.i + 0 ≡ c.args.i = omega arith in (rw e, λ p h. refl)
+loop-k-init c = λ p h. refl
 
 pub loop-k-preserved : goal.loop-k-preserved
 loop-k-preserved c =
     let g = c.args in
     let k = c.loop-k.k in
-    let e : g.i + (k + 1) ≡ g.i + 1 + k = omega arith in
-    let q : c.loop-k.place + (g.i + 1 + k) ≡ at (g.i + 1 + k) g.i = ap (λ (t : ℕ). t + (g.i + 1 + k)) c.loop-k.invariant.0 ∙ below-entry g.i k in (
-      rw e q,
-      rw (add-one k) (lost-more k (λ r. entry g.l.now (g.i + 1 + r) g.i) (λ r. cell g.x.now (g.i + 1 + r)) (cell g.z.now g.i) c.loop-k.s c.less-s.result _ (get_or g.x.now (g.i + 1 + k) []) (rw q) (λ p h. refl) c.loop-k.invariant.1 c.less-s.ensures),
-    )
+    rw (add-one k) (lost-more k (λ r. entry g.l.now (g.i + 1 + r) g.i) (λ r. cell g.x.now (g.i + 1 + r)) (cell g.z.now g.i) c.loop-k.s c.less-s.result _ (get_or g.x.now (g.i + 1 + k) []) refl (λ p h. refl) c.loop-k.invariant c.less-s.ensures)
 
 pub returns : goal.returns
 returns c =
     let g = c.args in
     let e : c.loop-k.k ≡ g.m = omega arith in
-    lost-over g.m (λ r. entry g.l.now (g.i + 1 + r) g.i) (λ r. cell g.x.now (g.i + 1 + r)) (cell g.z.now g.i) c.loop-k.s c.over.result _ (rw e at c.loop-k.invariant.1) c.over.ensures
+    lost-over g.m (λ r. entry g.l.now (g.i + 1 + r) g.i) (λ r. cell g.x.now (g.i + 1 + r)) (cell g.z.now g.i) c.loop-k.s c.over.result _ (rw e at c.loop-k.invariant) c.over.ensures

@@ -1,10 +1,11 @@
 -- `lanes::sums::dot_each` meets its contract: before each turn each lane has the sum of the i products passed. Assumes nothing.
-use mathlib.Core.Path.{◌≡◌, refl}
+use mathlib.Core.Path.{◌≡◌}
 use native.Mathlib.Numerals.{add-one}
 use native.Mathlib.Omega.{arith}
 use borrow.Author.Tests.{le-leb}
 use lib.ListN.{length, get_or}
 use lib.Ieee.{nan, binary64, mul, of_bits}
+use Rattle.std.proofs.lemmas.List.{get_or-replicate}
 use Rattle.lanes.specs.Rows.{cell}
 use Rattle.lanes.specs.Sums.{dot_each_of}
 use Rattle.lanes.proofs.Summed.{summed-none, summed-more}
@@ -18,7 +19,7 @@ pub loop-i-preserved : goal.loop-i-preserved
 loop-i-preserved c =
     let g = c.args in
     let i = c.loop-i.i in
-    rw (add-one i) (summed-more i (λ p k. mul binary64 (cell g.a.now k p) (get_or g.b.now k nan)) _ c.loop-i.s c.more_by-s.result (λ p h. refl) c.loop-i.invariant c.more_by-s.ensures)
+    rw (add-one i) (summed-more i (λ p k. mul binary64 (cell g.a.now k p) (get_or g.b.now k nan)) _ c.loop-i.s c.more-s.result (λ p h. rw (get_or-replicate 8 p (get_or g.b.now i nan) nan h)) c.loop-i.invariant c.more-s.ensures)
 
 pub returns : goal.returns
 unfolding dot_each_of

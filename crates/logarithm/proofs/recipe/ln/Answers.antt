@@ -5,12 +5,9 @@ use mathlib.Core.Bool.{true, false}
 use Prim.Native.Nat.{◌+◌, ◌%◌, ◌≤◌, ◌<◌}
 use native.Mathlib.Omega.{arith}
 use borrow.Author.Tests.{le-leb, lt-leb, lt-ltb, le-ltb}
-use lib.Dec.{T}
 use lib.Ieee.{Float, binary64, lt, of_bits, to_bits, of_int}
-use Rattle.arith.proofs.Order.{le_of_lt, le-real}
 use Rattle.logarithm.specs.Ln.{ln_of, normal, field, digits, mantissa_of, exponent_of, halved_of}
 use Rattle.arith.proofs.Patterns.{no_nan}
-use Rattle.arith.proofs.Tests.{taken}
 use Rattle.logarithm.proofs.recipe.ln.Goals as goal
 
 -- what the tests pick
@@ -37,9 +34,6 @@ large x h k l = rw (h, le-leb 1 (field x) k, le-ltb (field x) 2047 l)
 is_normal : (x : Float) → lt (of_bits binary64 0) x ≡ true → 1 ≤ field x → field x < 2047 → normal x ≡ true
 unfolding normal
 is_normal x h k l = rw (h, le-leb 1 (field x) k, lt-ltb (field x) 2047 l)
-
-pub float_to_bits-b : goal.float_to_bits-b
-float_to_bits-b c = (le-real _ _ (le_of_lt _ _ (let h : T (lt (of_bits binary64 0) c.args.x) = taken c.if-x.true in h))).1
 
 pub returns-then-field-lt1 : goal.returns-then-field-lt1
 unfolding field

@@ -2,7 +2,6 @@
 use Prim.Native.Nat.{ℕ}
 use mathlib.Core.Path.{◌≡◌, sym, ap, ◌∙◌}
 use mathlib.Core.List.{List}
-use native.Mathlib.Omega.{arith}
 use Rattle.std.proofs.lemmas.Result.{err_from_is_err_and}
 use Rattle.param_mapping.proofs.Opened.{Recent, recent}
 use Rattle.history_rows.proofs.Recent.{recent-part, recent-whole}
@@ -20,19 +19,10 @@ returns-in_err-check c =
     rw (p.1, p.2, sym c.check.ensures, c.in_err-check.was)
 
 -- what is known of a history that is not refused, and of its recent rows
-known : (c : After-recent_part-recent) → let a = c.args in Recent a.slots a.k a.h.now c.recent_part-recent.result
+known : (c : After-recent_part-recent) → let a = c.args in Recent a.slots a.dims.count a.h.now c.recent_part-recent.result
 known c =
     let a = c.args in
-    recent a.slots a.dims a.k a.h.now c.recent_part-recent.result (sym c.check.ensures ∙ c.in_ok-check.was) c.recent_part-recent.ensures
-
-pub offset_bounds-h-start : goal.offset_bounds-h-start
-offset_bounds-h-start c = let l = (known (goal.at.offset_bounds-h-start c).After-recent_part-recent).inside in omega arith
-
-pub slice_bounds-recent_mapping-count : goal.slice_bounds-recent_mapping-count
-slice_bounds-recent_mapping-count c = let l = (known (goal.at.slice_bounds-recent_mapping-count c).After-recent_part-recent).inside in omega arith
-
-pub slice_bounds-recent_mapping-start : goal.slice_bounds-recent_mapping-start
-slice_bounds-recent_mapping-start c = let l = (known (goal.at.slice_bounds-recent_mapping-start c).After-recent_part-recent).inside in omega arith
+    recent a.slots a.dims.list a.dims.count a.h.now c.recent_part-recent.result (sym c.check.ensures ∙ c.in_ok-check.was) c.recent_part-recent.ensures.is
 
 pub recent_mapping-ids-requires : goal.recent_mapping-ids-requires
 recent_mapping-ids-requires c =
@@ -44,6 +34,6 @@ pub returns : goal.returns
 unfolding mapping_of
 returns c =
     let a = c.args in
-    let e : c.recent_mapping-ids.result ≡ filled None 20 (mapped_of a.slots a.dims a.k (row_at a.slots (recent_of a.slots a.h.now) 0)) =
-    c.recent_mapping-ids.ensures ∙ ap (λ (r : List ℕ). filled None 20 (mapped_of a.slots a.dims a.k (row_at a.slots r 0))) (recent-part a.slots a.h.now c.recent_part-recent.result.start (known (goal.at.returns c).After-recent_part-recent).start) in
+    let e : c.recent_mapping-ids.result ≡ filled None 20 (mapped_of a.slots a.dims.list a.dims.count (row_at a.slots (recent_of a.slots a.h.now) 0)) =
+    c.recent_mapping-ids.ensures ∙ ap (λ (r : List ℕ). filled None 20 (mapped_of a.slots a.dims.list a.dims.count (row_at a.slots r 0))) (recent-part a.slots a.h.now c.recent_part-recent.result.start (known (goal.at.returns c).After-recent_part-recent).start) in
     rw (sym c.check.ensures, c.in_ok-check.was, e)

@@ -14,4 +14,4 @@ loop-j-init c = refl
 pub loop-j-preserved : goal.loop-j-preserved
 loop-j-preserved c =
     let a = c.args in
-    rw (c.first_entry.ensures, c.loop-j.invariant, mapped-take a.n a.dims.now c.loop-j.j a.row.now, add-one) (mapped-set a.n a.dims.now c.loop-j.j a.row.now (omega arith))
+    rw (c.first_entry.ensures, c.loop-j.invariant, mapped-take a.n a.dims.now.list c.loop-j.j a.row.now, add-one) (mapped-set a.n a.dims.now.list c.loop-j.j a.row.now (omega arith))

@@ -5,4 +5,4 @@ use Rattle.param_mapping.specs.Mapping.{mapped_of}
 use Rattle.param_mapping.proofs.matching.mapped.Given as goal
 
 abbrev pub invariant-loop-j : goal.invariant-loop-j
-invariant-loop-j l = l.out ≡ filled None 20 (mapped_of l.n l.dims l.j l.row)
+invariant-loop-j l = l.out ≡ filled None 20 (mapped_of l.n l.dims.list l.j l.row)

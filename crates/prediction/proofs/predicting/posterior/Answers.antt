@@ -17,4 +17,4 @@ unfolding posterior_mean_of posterior_std_of of_bits of_int
 returns c =
     let m = c.args.m.now in
     let v = solved m.cholesky c.kernel_vector-k.result m.n c.solve.result c.unwrap-v.result (omega arith) c.solve.ensures c.unwrap-v.ensures in
-    rw (c.sqrt-std.ensures, c.positive_part-held.ensures, c.dot-explained.ensures, v, c.dot-mean.ensures, c.kernel_vector-k.ensures, grown-padded-take 100 (λ xs i. similarity_of c.args.p.now (row_of m.x_train m.d i) (take m.d m.lengthscales)) m.n)
+    rw (c.sqrt-std.ensures, c.positive_part-held.ensures, c.dot-explained.ensures, v, c.dot-mean.ensures, c.kernel_vector-k.ensures, c.requires.2, grown-padded-take 100 (λ xs i. similarity_of c.args.p.now (row_of m.x_train m.d i) (take m.d m.lengthscales)) m.n)

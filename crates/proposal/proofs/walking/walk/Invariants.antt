@@ -7,4 +7,4 @@ use Rattle.proposal.proofs.walking.walk.Given as goal
 
 abbrev pub invariant-loop-j : goal.invariant-loop-j
 invariant-loop-j l =
-    (walked_of l.point l.dims l.j l.word ≡ Ok (record { value = l.value; drawn = l.drawn; next = l.next })) × (l.c ≡ length (columns_of l.dims l.j))
+    (walked_of l.point l.dims.list l.j l.word ≡ Ok (record { value = l.value; drawn = l.drawn; next = l.next })) × (l.c ≡ length (columns_of l.dims.list l.j))
