@@ -80,10 +80,7 @@ impl Judge<'_> {
 fn same_trial(other: &Option<Place>, place: &Option<Place>) -> bool
     ensures { result ≡ same_trial other.now place.now }
 {
-    match other {
-        Some(held) => places::is_held_by(place, held.trial),
-        None => false,
-    }
+    matches!(other, Some(held) if places::is_held_by(place, held.trial))
 }
 
 // Whether none of the places before a place is taken by its trial.
