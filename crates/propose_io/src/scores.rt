@@ -2,7 +2,6 @@
 // stored it.
 ghost use Rattle.std.specs.Prelude.{◌<◌, ◌≤◌, length};
 
-use dimensions::Dimensions;
 use gp_model::Model;
 use history::Training;
 use refusal::Refusal;
@@ -87,11 +86,7 @@ fn fit(t: &Training, noise_variance: f64) -> Result<Model, Refusal>
 fn write_trial(rt: HostRuntime, s: &Sampler, trial: u64, h: &[u64]) -> ControlFlow<()> {
     let settings = s.settings;
     let slots = settings.slots as usize;
-    let dims = Dimensions {
-        list: s.dimensions,
-        count: s.n_dims,
-    };
-    let Ok(v) = history_view::view_of(slots, settings.n_startup_trials, dims, h) else {
+    let Ok(v) = history_view::view_of(slots, settings.n_startup_trials, s.dimensions, h) else {
         return ControlFlow::Continue(());
     };
     let t = v.training;

@@ -15,5 +15,5 @@ use sampler_state::Sampler;
 #[derive(Drop)]
 pub(crate) struct Tested<'a> {
     pub(crate) sampler: &'a Sampler,
-    ghost few: { sampler.now.n_dims ≤ 20 },
+    ghost few: { sampler.now.dimensions.count ≤ 20 },
 }

@@ -13,7 +13,7 @@ impl Tested<'_> {
     fn discover(&self, d: Distribution, trial: u64) -> Result<Accepted, Refusal>
         ensures { result ≡ discover_of self.now.sampler.now d trial }
     {
-        if self.sampler.n_dims == 20 {
+        if self.sampler.dimensions.count == 20 {
             return Err(Refusal::TooManyDimensions);
         }
         let draw = common::sample_random(self.sampler.word, d)?;
@@ -33,9 +33,9 @@ impl Tested<'_> {
 
     // Whether the call is the discovery trial's.
     fn discovers(&self, trial: u64) -> bool
-        ensures { let s = self.now.sampler.now in result ≡ (eqb s.n_dims 0 || eqb trial s.discovery_trial_id) }
+        ensures { let s = self.now.sampler.now in result ≡ (eqb s.dimensions.count 0 || eqb trial s.discovery_trial_id) }
     {
-        self.sampler.n_dims == 0 || trial == self.sampler.discovery_trial_id
+        self.sampler.dimensions.count == 0 || trial == self.sampler.discovery_trial_id
     }
 
     // By the phase. The call that ends discovery is served with an empty history.

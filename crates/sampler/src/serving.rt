@@ -13,11 +13,11 @@ use sampler_state::Place;
 impl Tested<'_> {
     // The next value of a place, or past the last a random one with the place as it was.
     fn next(&self, p: Place, d: Distribution) -> Result<Serving, Refusal>
-        ensures { let s = self.now.sampler.now in result ≡ cond (ltb p.next_dim s.n_dims) (Ok (next_of s.word p)) (past_of s.word p d) }
+        ensures { let s = self.now.sampler.now in result ≡ cond (ltb p.next_dim s.dimensions.count) (Ok (next_of s.word p)) (past_of s.word p d) }
     {
         let word = self.sampler.word;
         let j = p.next_dim;
-        if j >= self.sampler.n_dims {
+        if j >= self.sampler.dimensions.count {
             let draw = common::sample_random(word, d)?;
             return Ok(Serving { draw, place: p });
         }
@@ -38,14 +38,10 @@ impl Tested<'_> {
 
     // A new trial: its values in a place, and the first of them.
     fn new_trial(&self, trial: u64, h: &[u64]) -> Result<Serving, Refusal>
-        ensures { let s = self.now.sampler.now in result ≡ new_trial_of s.settings s.dimensions s.n_dims s.word trial h.now }
+        ensures { let s = self.now.sampler.now in result ≡ new_trial_of s.settings s.dimensions.list s.dimensions.count s.word trial h.now }
     {
         let s = self.sampler;
-        let dims = Dimensions {
-            list: s.dimensions,
-            count: s.n_dims,
-        };
-        let made = proposal::compute_candidate(s.settings, dims, s.word, h)?;
+        let made = proposal::compute_candidate(s.settings, s.dimensions, s.word, h)?;
         let values = made.value;
         Ok(Serving {
             draw: made.with(values[0]),
@@ -66,7 +62,7 @@ impl Tested<'_> {
         trial: u64,
         h: &[u64],
     ) -> Result<Serving, Refusal>
-        ensures { let s = self.now.sampler.now in result ≡ serving_of s.settings s.dimensions s.n_dims s.word place d trial h.now }
+        ensures { let s = self.now.sampler.now in result ≡ serving_of s.settings s.dimensions.list s.dimensions.count s.word place d trial h.now }
     {
         match place {
             Some(p) => self.next(p, d),

@@ -52,13 +52,13 @@ pub(crate) fn with_discovery_ended(mut s: Sampler) -> Sampler
 
 // One more dimension, for the discovery trial.
 pub(crate) fn with_dimension(mut s: Sampler, trial: u64, d: Distribution) -> Sampler
-    requires { s.n_dims < 20 }
+    requires { s.dimensions.count < 20 }
     ensures { result ≡ with_dimension s trial d }
 {
-    let k = s.n_dims;
+    let k = s.dimensions.count;
     s.discovery_trial_id = trial;
-    s.dimensions[k] = dimensions::dimension(d);
-    s.n_dims = k + 1;
+    s.dimensions.list[k] = dimensions::dimension(d);
+    s.dimensions.count = k + 1;
     s
 }
 

@@ -33,14 +33,14 @@ use Rattle.sampler_laws.proofs.Ways.{by-sample}
 -- its values were made with the history that it is served with, and stand in its place
 record Filled (s : Sampler) (trial : ℕ) (h : List ℕ) (after : Sampler) : Type 0 where
   draw : Draw (List ParamValue)
-  is : compute_candidate_of s.settings s.dimensions s.n_dims s.word (served_history s h) ≡ Ok draw
+  is : compute_candidate_of s.settings s.dimensions.list s.dimensions.count s.word (served_history s h) ≡ Ok draw
   placed : held_by after.places trial ≡ Some (stored_of trial draw).place
 
 filled : (s : Sampler) → length s.places ≡ 32 → (d : Asked) (trial : ℕ) (h : List ℕ) → past_discovery s trial ≡ true → trial_place s.places trial ≡ 32 → (a : Answer) → (call_of s (asks d trial h)).answer ≡ Ok a
     → Filled s trial h (call_of s (asks d trial h)).sampler
 filled s n d trial h past none =
     by-sample s d trial h (λ r. (a : Answer) → r.answer ≡ Ok a → Filled s trial h r.sampler) (λ c _ a e. absurd (cc)) (λ r _ a _ _ _ _ _. absurd (true≢false (sym past ∙ a)))
-    (λ r _ _ l v e _ _. by-served s.settings s.dimensions s.n_dims s.word (held_by s.places trial) r trial (served_history s h)
+    (λ r _ _ l v e _ _. by-served s.settings s.dimensions.list s.dimensions.count s.word (held_by s.places trial) r trial (served_history s h)
     (λ v. Filled s trial h (written_of (activated s) (spot_of s trial) v).sampler) (λ q f _. absurd (taken q f)) (λ q f _ _ _. absurd (taken q f))
     (λ _ c z. record { draw = c; is = z; placed = put-new s.places n (spot_of s trial) l (Some (stored_of trial c).place) trial none (eqb_refl trial) }) v e)
   where
@@ -50,7 +50,7 @@ filled s n d trial h past none =
 
 -- ---- what its place holds
 
-stores : (s after : Sampler) (trial : ℕ) (h : List ℕ) (point : List Float) (f : Filled s trial h after) → Decodes s.dimensions s.n_dims f.draw.value point → Stores s after trial point
+stores : (s after : Sampler) (trial : ℕ) (h : List ℕ) (point : List Float) (f : Filled s trial h after) → Decodes s.dimensions.list s.dimensions.count f.draw.value point → Stores s after trial point
 stores s after trial h point f e = record { place = (stored_of trial f.draw).place; placed = f.placed; decoded = e }
 
 pub best : (s : Sampler) (c : Call) → length s.places ≡ 32 → BestStored s c
@@ -61,7 +61,7 @@ best s (asks d trial h) n = λ t g m e.
     let past : past_discovery s trial ≡ true = is_true (past_discovery s trial) (search parts depth 9) in
     let a = answered (call_of s (asks d trial h)).answer (search parts depth 9) in
     let f = filled s n d trial h past none a.0 a.1 in
-    let q = stores-earliest s.settings s.dimensions s.n_dims s.word (served_history s h) f.draw f.is (and_l (fit_made s h) (is_ok (fit_answer s h)) g) m e in
+    let q = stores-earliest s.settings s.dimensions.list s.dimensions.count s.word (served_history s h) f.draw f.is (and_l (fit_made s h) (is_ok (fit_answer s h)) g) m e in
     record {
       none = λ z. stores s after trial h _ f (q.none z);
       found = λ z. let b = q.found z in (b.0, b.1, stores s after trial h _ f b.2, b.3, b.4);

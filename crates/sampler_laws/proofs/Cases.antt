@@ -144,7 +144,7 @@ at next = record { trial = 8; values = filled empty_value 20 (ParamValue.Categor
 
 -- the int from 0 to 9 asked, with the dimensions of the run and the generator's word 1
 abbrev serve : Option Place → Result Serving Refusal
-serve p = serving_of fresh.settings second.sampler.dimensions 2 1 p (Distribution.Int (record { low = pos 0; high = pos 9; log_scale = false; step = None })) 8 []
+serve p = serving_of fresh.settings second.sampler.dimensions.list 2 1 p (Distribution.Int (record { low = pos 0; high = pos 9; log_scale = false; step = None })) 8 []
 
 -- a serving put back as place 3 of a sampler that has a place 0
 abbrev before : Sampler

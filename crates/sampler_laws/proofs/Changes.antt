@@ -89,7 +89,7 @@ module _ (s : Sampler) (g : Well s) where
     ok = record { settings = o.settings; word = untaken (nonzero-test w h); dimensions = o.dimensions; some = o.some; places = o.places; once = o.once };
   }
 
-  pub with-place : (i : ℕ) (p : Option Place) → i < 32 → T (place_ok s.active s.dimensions s.n_dims p) → Once (set s.places i p) → Well (with_place s i p)
+  pub with-place : (i : ℕ) (p : Option Place) → i < 32 → T (place_ok s.active s.dimensions.list s.dimensions.count p) → Once (set s.places i p) → Well (with_place s i p)
   with-place i p l k once = record {
     typed = record { word = t.word; dimensions = t.dimensions; places = length-set s.places i p ∙ t.places; held = t.held; ends = t.ends };
     ok = record {
@@ -97,34 +97,34 @@ module _ (s : Sampler) (g : Well s) where
       word = o.word;
       dimensions = o.dimensions;
       some = o.some;
-      places = λ j n. each_set s.places t.places i l p (λ q. T (place_ok s.active s.dimensions s.n_dims q)) k j (o.places j n);
+      places = λ j n. each_set s.places t.places i l p (λ q. T (place_ok s.active s.dimensions.list s.dimensions.count q)) k j (o.places j n);
       once = once;
     };
   }
 
   all-free : s.active ≡ false → (i : ℕ) → i < 32 → place_at s.places i ≡ None
-  all-free a i l = free s.active s.dimensions s.n_dims (place_at s.places i) a (o.places i l)
+  all-free a i l = free s.active s.dimensions.list s.dimensions.count (place_at s.places i) a (o.places i l)
 
   -- discovery ended
-  pub ended : s.active ≡ false → (s.n_dims ≡ 0 → ⊥) → Well (activated s)
+  pub ended : s.active ≡ false → (s.dimensions.count ≡ 0 → ⊥) → Well (activated s)
   ended a n = record {
     typed = record { word = t.word; dimensions = t.dimensions; places = t.places; held = t.held; ends = t.ends };
     ok = record {
       settings = o.settings;
       word = o.word;
       dimensions = o.dimensions;
-      some = le→leb 1 s.n_dims (omega arith);
-      places = λ i l. free-ok true s.dimensions s.n_dims (place_at s.places i) (all-free a i l);
+      some = le→leb 1 s.dimensions.count (omega arith);
+      places = λ i l. free-ok true s.dimensions.list s.dimensions.count (place_at s.places i) (all-free a i l);
       once = o.once;
     };
   }
 
   -- one more dimension, while discovery goes on
-  pub with-dimension : (trial : ℕ) (d : Distribution) → s.active ≡ false → s.n_dims < 20 → Formed (dimension_of d) → Well (with_dimension s trial d)
+  pub with-dimension : (trial : ℕ) (d : Distribution) → s.active ≡ false → s.dimensions.count < 20 → Formed (dimension_of d) → Well (with_dimension s trial d)
   with-dimension trial d a l f = record {
     typed = record {
       word = t.word;
-      dimensions = length-set s.dimensions s.n_dims (dimension_of d) ∙ t.dimensions;
+      dimensions = length-set s.dimensions.list s.dimensions.count (dimension_of d) ∙ t.dimensions;
       places = t.places;
       held = λ j m. (all j m).held;
       ends = λ j m. ((all j m).lo-fits, (all j m).hi-fits);
@@ -133,22 +133,22 @@ module _ (s : Sampler) (g : Well s) where
       settings = o.settings;
       word = o.word;
       dimensions = ok;
-      some = or_left (not s.active) (leb 1 (s.n_dims + 1)) (untaken a);
-      places = λ i m. free-ok s.active dims (s.n_dims + 1) (place_at s.places i) (all-free a i m);
+      some = or_left (not s.active) (leb 1 (s.dimensions.count + 1)) (untaken a);
+      places = λ i m. free-ok s.active dims (s.dimensions.count + 1) (place_at s.places i) (all-free a i m);
       once = o.once;
     };
   }
     where
       dims : List DimensionInfo
-      dims = set s.dimensions s.n_dims (dimension_of d)
+      dims = set s.dimensions.list s.dimensions.count (dimension_of d)
 
-      all : (j : ℕ) → j < s.n_dims + 1 → Formed (dimension_at dims j)
-      all j m = elim (equal_or_not j s.n_dims) [
-        | inl e ↦ subst (λ (n : ℕ). Formed (dimension_at dims n)) (sym e) (subst Formed (sym (get_or-set_same s.dimensions s.n_dims (dimension_of d) no_dimension (rw t.dimensions l))) f)
-        | inr n ↦ subst Formed (sym (get_or-set_other s.dimensions s.n_dims j (dimension_of d) no_dimension n)) ((ready s g).formed j (omega arith))
+      all : (j : ℕ) → j < s.dimensions.count + 1 → Formed (dimension_at dims j)
+      all j m = elim (equal_or_not j s.dimensions.count) [
+        | inl e ↦ subst (λ (n : ℕ). Formed (dimension_at dims n)) (sym e) (subst Formed (sym (get_or-set_same s.dimensions.list s.dimensions.count (dimension_of d) no_dimension (rw t.dimensions l))) f)
+        | inr n ↦ subst Formed (sym (get_or-set_other s.dimensions.list s.dimensions.count j (dimension_of d) no_dimension n)) ((ready s g).formed j (omega arith))
       ]
 
-      ok : T (dimensions_ok dims (s.n_dims + 1))
+      ok : T (dimensions_ok dims (s.dimensions.count + 1))
       ok =
-          unfold dimensions_ok in and_i (leb (s.n_dims + 1) 20) (every (s.n_dims + 1) (λ j. dimension_ok (dimension_at dims j))) (le→leb (s.n_dims + 1) 20 (omega arith))
-          (each-every (s.n_dims + 1) (λ j. dimension_ok (dimension_at dims j)) (λ j m. (all j m).ok))
+          unfold dimensions_ok in and_i (leb (s.dimensions.count + 1) 20) (every (s.dimensions.count + 1) (λ j. dimension_ok (dimension_at dims j))) (le→leb (s.dimensions.count + 1) 20 (omega arith))
+          (each-every (s.dimensions.count + 1) (λ j. dimension_ok (dimension_at dims j)) (λ j m. (all j m).ok))

@@ -145,11 +145,11 @@ served-accepted s h o r = go s.active
     go false = empty-accepted s.settings.slots (slots-least s.settings o) (slots-most s.settings o)
 
 module _ (s : Sampler) (g : Well s) (h : List ℕ) (r : check_of s.settings.slots h ≡ Ok tt) where
-  values_of : InRanges s.dimensions s.n_dims (compute_candidate_of s.settings s.dimensions s.n_dims s.word (served_history s h))
-  values_of = values-made s.settings s.dimensions s.n_dims s.word (ready s g) (served_history s h) (served-accepted s h g.ok.settings r)
+  values_of : InRanges s.dimensions.list s.dimensions.count (compute_candidate_of s.settings s.dimensions.list s.dimensions.count s.word (served_history s h))
+  values_of = values-made s.settings s.dimensions.list s.dimensions.count s.word (ready s g) (served_history s h) (served-accepted s h g.ok.settings r)
 
   fit_of_lem : T (fit_made s h) → T (fit_number (number_of (fit_answer s h)))
-  fit_of_lem m = fit s.settings s.dimensions s.n_dims s.word (ready s g) (served_history s h) (served-accepted s h g.ok.settings r) (search parts)
+  fit_of_lem m = fit s.settings s.dimensions.list s.dimensions.count s.word (ready s g) (served_history s h) (served-accepted s h g.ok.settings r) (search parts)
 
 pub nothing_refused : NothingRefused
 nothing_refused = record {

@@ -135,4 +135,4 @@ module _ (settings : Settings) (dims : List DimensionInfo) (k word : ℕ) (p : O
 
 -- a trial of this sampler is left a place of its own
 pub serves-own : (s : Sampler) → length s.places ≡ 32 → (d : Distribution) (trial : ℕ) (h : List ℕ) (v : Serving) → serving_for s d trial h ≡ Ok v → v.place.trial ≡ trial
-serves-own s n d trial h = serving-own s.settings s.dimensions s.n_dims s.word (held_by s.places trial) d trial h (held-own s.places n trial)
+serves-own s n d trial h = serving-own s.settings s.dimensions.list s.dimensions.count s.word (held_by s.places trial) d trial h (held-own s.places n trial)

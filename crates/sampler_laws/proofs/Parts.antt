@@ -26,9 +26,9 @@ use Rattle.sampler_state.proofs.Held.{Once, once, from-once}
 pub record Checked (s : Sampler) : Type 0 where
   pub settings : T (settings_ok s.settings)
   pub word : T (not (eqb s.word 0))
-  pub dimensions : T (dimensions_ok s.dimensions s.n_dims)
-  pub some : T (not s.active || leb 1 s.n_dims)
-  pub places : (i : ℕ) → i < 32 → T (place_ok s.active s.dimensions s.n_dims (place_at s.places i))
+  pub dimensions : T (dimensions_ok s.dimensions.list s.dimensions.count)
+  pub some : T (not s.active || leb 1 s.dimensions.count)
+  pub places : (i : ℕ) → i < 32 → T (place_ok s.active s.dimensions.list s.dimensions.count (place_at s.places i))
   pub once : Once s.places
 
 ok-parts : (s : Sampler) → T (sampler_ok s) → Checked s
@@ -38,7 +38,7 @@ ok-parts s t = record {
   word = search parts depth 9;
   dimensions = search parts depth 9;
   some = search parts depth 9;
-  places = every-each 32 (λ i. place_ok s.active s.dimensions s.n_dims (place_at s.places i)) (search parts depth 9);
+  places = every-each 32 (λ i. place_ok s.active s.dimensions.list s.dimensions.count (place_at s.places i)) (search parts depth 9);
   once = once s.places (search parts depth 9);
 }
 
@@ -49,7 +49,7 @@ parts-ok s o =
     let b = o.word in
     let c = o.dimensions in
     let d = o.some in
-    let e = each-every 32 (λ i. place_ok s.active s.dimensions s.n_dims (place_at s.places i)) o.places in
+    let e = each-every 32 (λ i. place_ok s.active s.dimensions.list s.dimensions.count (place_at s.places i)) o.places in
     let f = from-once s.places o.once in
     search and_i depth 9
 
@@ -58,7 +58,7 @@ pub taken-active : (s : Sampler) → T (sampler_ok s) → (i : ℕ) → i < 32 �
 unfolding place_ok
 taken-active s t i l = go (place_at s.places i) ((ok-parts s t).places i l)
   where
-    go : (p : Option Place) → T (place_ok s.active s.dimensions s.n_dims p) → T (taken p) → s.active ≡ true
+    go : (p : Option Place) → T (place_ok s.active s.dimensions.list s.dimensions.count p) → T (taken p) → s.active ≡ true
     go (Some q) o h = is_true s.active (and_l s.active _ o)
     go None o h = absurd h
 
@@ -77,13 +77,13 @@ pub record Ready (settings : Settings) (dims : List DimensionInfo) (k word : ℕ
   pub dimensions : T (dimensions_ok dims k)
   pub formed : (j : ℕ) → j < k → Formed (dimension_at dims j)
 
-pub ready : (s : Sampler) → Well s → Ready s.settings s.dimensions s.n_dims s.word
+pub ready : (s : Sampler) → Well s → Ready s.settings s.dimensions.list s.dimensions.count s.word
 ready s g = record {
   settings-ok = g.ok.settings;
   nonzero = (pos_of_ne-zero (λ z. T_not (eqb s.word 0) g.ok.word (eq→eqb z)), g.typed.word);
   dimensions = g.ok.dimensions;
   formed = λ j l. record {
-    ok = (dimensions-ok s.dimensions s.n_dims g.ok.dimensions).1 j l;
+    ok = (dimensions-ok s.dimensions.list s.dimensions.count g.ok.dimensions).1 j l;
     held = g.typed.held j l;
     lo-fits = (g.typed.ends j l).0;
     hi-fits = (g.typed.ends j l).1;

@@ -98,8 +98,8 @@ only-full s d trial h =
     nine (no-draw r p c x) e = absurd ((random-other s.word r).no (ap number_of x ∙ e))
     nine (no_place l) e = no-spot s.places trial l
     nine (no-values r p q c x) e =
-        absurd ((by-serving s.settings s.dimensions s.n_dims s.word (held_by s.places trial) r trial (served_history s h) Other (λ _ _ _. fine _)
-        (λ _ _ _. made-other _ _ (random-other s.word r)) (λ _. made-other _ _ (candidate-other s.settings s.dimensions s.n_dims s.word (served_history s h)))).no (ap number_of x ∙ e))
+        absurd ((by-serving s.settings s.dimensions.list s.dimensions.count s.word (held_by s.places trial) r trial (served_history s h) Other (λ _ _ _. fine _)
+        (λ _ _ _. made-other _ _ (random-other s.word r)) (λ _. made-other _ _ (candidate-other s.settings s.dimensions.list s.dimensions.count s.word (served_history s h)))).no (ap number_of x ∙ e))
 
 ninth : (s : Sampler) (d : Asked) (r : Distribution) (trial : ℕ) (h : List ℕ)
     → T (sampler_ok s) → read_asked d ≡ Some r → check_of s.settings.slots h ≡ Ok tt → taken_count s.places ≡ 32 → trial_place s.places trial ≡ 32 → (call_of s (asks d trial h)).answer ≡ Err NoPlace

@@ -29,7 +29,7 @@ module _ (s : Sampler) (g h : List ℕ) (a : Agree s.settings.slots s.settings.n
 
   active-same : (d : Distribution) (trial : ℕ) → active_of s d trial g ≡ active_of s d trial h
   unfolding active_of
-  active-same d trial = rw (serving-same s.settings s.dimensions s.n_dims s.word (held_by s.places trial) d trial g h (order-free.view n startup s.dimensions s.n_dims g h a))
+  active-same d trial = rw (serving-same s.settings s.dimensions.list s.dimensions.count s.word (held_by s.places trial) d trial g h (order-free.view n startup s.dimensions.list s.dimensions.count g h a))
 
   served-same : (d : Distribution) (trial : ℕ) → served_of s d trial g ≡ served_of s d trial h
   unfolding served_of

@@ -42,7 +42,7 @@ pub record Passed (s : Sampler) (d : Asked) (h : List ℕ) (r : Distribution) : 
 
 -- an active sampler is itself with its discovery ended
 pub is-activated : (s : Sampler) → s.active ≡ true → activated s ≡ s
-is-activated s e = ap (λ (a : Bool). record { settings = s.settings; word = s.word; active = a; discovery_trial_id = s.discovery_trial_id; dimensions = s.dimensions; n_dims = s.n_dims; places = s.places }) (sym e)
+is-activated s e = ap (λ (a : Bool). record { settings = s.settings; word = s.word; active = a; discovery_trial_id = s.discovery_trial_id; dimensions = s.dimensions; places = s.places }) (sym e)
 
 -- the trial served past discovery, with the history that it is lent
 abbrev pub served_now : Sampler → Distribution → ℕ → List ℕ → Result Serving Refusal
@@ -52,7 +52,7 @@ served_now s r trial h = serving_for s r trial (served_history s h)
 pub discovering : (s : Sampler) (trial : ℕ) → past_discovery s trial ≡ false → s.active ≡ false
 discovering s trial = go s.active
   where
-    go : (a : Bool) → a || not (eqb s.n_dims 0 || eqb trial s.discovery_trial_id) ≡ false → a ≡ false
+    go : (a : Bool) → a || not (eqb s.dimensions.count 0 || eqb trial s.discovery_trial_id) ≡ false → a ≡ false
     go true e = e
     go false e = refl
 
@@ -68,7 +68,7 @@ pub data Refusing (s : Sampler) (d : Asked) (trial : ℕ) (h : List ℕ) : Refus
 
 -- what holds of each way to answer holds of the answer: a refusal, one more dimension, or the trial served and put back
 module _ (s : Sampler) (d : Asked) (trial : ℕ) (h : List ℕ) (P : Sampled → Type 0) (no : (c : Refusal) → Refusing s d trial h c → P (refused_of s c))
-    (discovers : (r : Distribution) → Passed s d h r → past_discovery s trial ≡ false → s.n_dims < 20 → (x : Draw ParamValue) → sample_random_of s.word r ≡ Ok x → P (answered_of s (Ok (drawn_of (with_dimension s trial r) x))))
+    (discovers : (r : Distribution) → Passed s d h r → past_discovery s trial ≡ false → s.dimensions.count < 20 → (x : Draw ParamValue) → sample_random_of s.word r ≡ Ok x → P (answered_of s (Ok (drawn_of (with_dimension s trial r) x))))
     (serves : (r : Distribution) → Passed s d h r → past_discovery s trial ≡ true → spot_of s trial < 32 → (v : Serving) → served_now s r trial h ≡ Ok v → P (answered_of s (Ok (written_of (activated s) (spot_of s trial) v)))) where
   abbrev Holds : Result Accepted Refusal → Type 0
   Holds x = P (answered_of s x)
@@ -88,17 +88,17 @@ module _ (s : Sampler) (d : Asked) (trial : ℕ) (h : List ℕ) (P : Sampled →
     unfolding discover_of
     discover past =
         let l = dimensions_few s (is_true (sampler_ok s) p.ok) in
-        by-test Holds (eqb s.n_dims 20) _ _ (λ z. no TooManyDimensions no-dimension) (λ z. drawn (sample_random_of s.word r) refl (let x = eqb-false s.n_dims 20 z in omega arith))
+        by-test Holds (eqb s.dimensions.count 20) _ _ (λ z. no TooManyDimensions no-dimension) (λ z. drawn (sample_random_of s.word r) refl (let x = eqb-false s.dimensions.count 20 z in omega arith))
       where
-        drawn : (x : Result (Draw ParamValue) Refusal) → sample_random_of s.word r ≡ x → s.n_dims < 20 → Holds (made (drawn_of (with_dimension s trial r)) x)
+        drawn : (x : Result (Draw ParamValue) Refusal) → sample_random_of s.word r ≡ x → s.dimensions.count < 20 → Holds (made (drawn_of (with_dimension s trial r)) x)
         drawn (Ok x) e l = discovers r p past l x e
         drawn (Err c) e l = no c (no-draw r p c e)
 
     served : Holds (served_of s r trial h)
     unfolding served_of
-    served = go s.active (eqb s.n_dims 0 || eqb trial s.discovery_trial_id) refl refl
+    served = go s.active (eqb s.dimensions.count 0 || eqb trial s.discovery_trial_id) refl refl
       where
-        go : (a b : Bool) → s.active ≡ a → eqb s.n_dims 0 || eqb trial s.discovery_trial_id ≡ b
+        go : (a b : Bool) → s.active ≡ a → eqb s.dimensions.count 0 || eqb trial s.discovery_trial_id ≡ b
             → Holds (cond a (active_of s r trial h) (cond b (discover_of s r trial) (active_of (activated s) r trial [])))
         go true b e q = subst Holds (ap (λ (t : Sampler). active_of t r trial (served_history s h)) (is-activated s e) ∙ ap (λ (a : Bool). active_of s r trial (cond a h [])) e) (goes (rw e))
         go false true e q = discover (rw (e, q))

@@ -46,9 +46,9 @@ use Rattle.sampler_laws.proofs.Ways.{Passed, served_now, Refusing, malformed-sam
 -- ---- a serving written back
 
 -- a place in range and a word, where no trial gets a second place
-put-well : (s : Sampler) → Well s → s.active ≡ true → (i : ℕ) (v : Serving) → i < 32 → T (progress_ok s.dimensions s.n_dims v.place) → Nonzero v.draw.next → Once (set s.places i (Some v.place)) → Well (written_of s i v).sampler
+put-well : (s : Sampler) → Well s → s.active ≡ true → (i : ℕ) (v : Serving) → i < 32 → T (progress_ok s.dimensions.list s.dimensions.count v.place) → Nonzero v.draw.next → Once (set s.places i (Some v.place)) → Well (written_of s i v).sampler
 put-well s g a i v l ok z once =
-    with-word (with_place s i (Some v.place)) (with-place s g i (Some v.place) l (taken-ok s.active s.dimensions s.n_dims v.place (passed a) ok) once) v.draw.next z
+    with-word (with_place s i (Some v.place)) (with-place s g i (Some v.place) l (taken-ok s.active s.dimensions.list s.dimensions.count v.place (passed a) ok) once) v.draw.next z
 
 -- ---- a sample call
 
@@ -63,17 +63,17 @@ accepted s a w = record { well = w; answered = λ n. cc }
 module _ (s : Sampler) (g : Well s) where
   -- past discovery the sampler goes on as an active one
   goes_on : (trial : ℕ) → past_discovery s trial ≡ true → Well (activated s)
-  goes_on trial = go s.active (eqb s.n_dims 0) refl refl
+  goes_on trial = go s.active (eqb s.dimensions.count 0) refl refl
     where
-      go : (a b : Bool) → s.active ≡ a → eqb s.n_dims 0 ≡ b → a || not (b || eqb trial s.discovery_trial_id) ≡ true → Well (activated s)
+      go : (a b : Bool) → s.active ≡ a → eqb s.dimensions.count 0 ≡ b → a || not (b || eqb trial s.discovery_trial_id) ≡ true → Well (activated s)
       go true b e z past = subst Well (sym (is-activated s e)) g
       go false true e z past = absurd (true≢false (sym past))
-      go false false e z past = ended s g e (eqb-false s.n_dims 0 z)
+      go false false e z past = ended s g e (eqb-false s.dimensions.count 0 z)
 
   -- what a trial's place holds is in range
-  held-ok : (trial : ℕ) (q : Place) → held_by s.places trial ≡ Some q → T (progress_ok s.dimensions s.n_dims q)
+  held-ok : (trial : ℕ) (q : Place) → held_by s.places trial ≡ Some q → T (progress_ok s.dimensions.list s.dimensions.count q)
   held-ok trial q e = elim (own-or-none s.places g.typed.places trial) [
-    | inl o ↦ (ok-taken s.active s.dimensions s.n_dims q (subst (λ (p : Option Place). T (place_ok s.active s.dimensions s.n_dims p)) e (g.ok.places _ o.below))).1
+    | inl o ↦ (ok-taken s.active s.dimensions.list s.dimensions.count q (subst (λ (p : Option Place). T (place_ok s.active s.dimensions.list s.dimensions.count p)) e (g.ok.places _ o.below))).1
     | inr o ↦ absurd (let z = sym o.empty ∙ e in cc)
   ]
 
@@ -81,10 +81,10 @@ module _ (s : Sampler) (g : Well s) where
     held-read : (r : Distribution) → Passed s d h r → Held r × T (shape_of r)
     held-read r p = read_held d.kind d.low d.high d.log d.stepped d.step r p.read
 
-    served : (r : Distribution) (p : Passed s d h r) → past_discovery s trial ≡ true → Ranged s.settings s.dimensions s.n_dims s.word (held_by s.places trial) r trial (served_history s h) (served_now s r trial h)
+    served : (r : Distribution) (p : Passed s d h r) → past_discovery s trial ≡ true → Ranged s.settings s.dimensions.list s.dimensions.count s.word (held_by s.places trial) r trial (served_history s h) (served_now s r trial h)
     served r p past =
         let f = held-read r p in
-        serving-ranged s.settings s.dimensions s.n_dims s.word (held_by s.places trial) r trial (served_history s h) (ready s g) (leb→le 1 s.n_dims (goes_on trial past).ok.some)
+        serving-ranged s.settings s.dimensions.list s.dimensions.count s.word (held_by s.places trial) r trial (served_history s h) (ready s g) (leb→le 1 s.dimensions.count (goes_on trial past).ok.some)
         (served-accepted s h g.ok.settings p.history) (held-ok trial) f.0 f.1
 
     not-11 : {c : Refusal} → Refusing s d trial h c → c ≡ OutOfDomain → ⊥
@@ -108,14 +108,14 @@ module _ (s : Sampler) (g : Well s) where
         let f : x.serving ≡ v = (let z = sym x.is ∙ e in cc) in
         let own = serves-own s g.typed.places r trial (served_history s h) v e in
         accepted s (written_of (activated s) (spot_of s trial) v)
-        (put-well (activated s) (goes_on trial past) refl (spot_of s trial) v l (subst (λ (v : Serving). T (progress_ok s.dimensions s.n_dims v.place)) f x.place)
-        (serving-nonzero s.settings s.dimensions s.n_dims s.word (held_by s.places trial) r trial (served_history s h) (ready s g).nonzero v e)
+        (put-well (activated s) (goes_on trial past) refl (spot_of s trial) v l (subst (λ (v : Serving). T (progress_ok s.dimensions.list s.dimensions.count v.place)) f x.place)
+        (serving-nonzero s.settings s.dimensions.list s.dimensions.count s.word (held_by s.places trial) r trial (served_history s h) (ready s g).nonzero v e)
         (spot-once s.places g.typed.places g.ok.once trial v.place l own)))
 
   close : (trial : ℕ) → Good (call_of s (closes trial))
   close trial =
       by-close s trial Good (λ e. absurd (T_not (sampler_ok s) (untaken e) (parts-ok s g.ok))) (record { well = g; answered = λ e. let z = ap number_of e in omega arith })
-      (λ l. accepted s (freed_of s trial) (with-place s g _ empty_place l (free-ok s.active s.dimensions s.n_dims empty_place refl) (emptied-once s.places g.typed.places g.ok.once trial l)))
+      (λ l. accepted s (freed_of s trial) (with-place s g _ empty_place l (free-ok s.active s.dimensions.list s.dimensions.count empty_place refl) (emptied-once s.places g.typed.places g.ok.once trial l)))
 
 good : (s : Sampler) (c : Call) → Well s → Good (call_of s c)
 good s (asks d trial h) g = sampled s g d trial h
@@ -131,7 +131,7 @@ fresh s l o = record {
     word = seed o;
     dimensions = unfold dimensions_ok every in tt;
     some = tt;
-    places = λ i m. free-ok false (fresh_of s).dimensions 0 (place_at (fresh_of s).places i) (empty i m);
+    places = λ i m. free-ok false (fresh_of s).dimensions.list 0 (place_at (fresh_of s).places i) (empty i m);
     once = λ j q m x. absurd (let z = sym (empty j m) ∙ x in cc);
   };
 }

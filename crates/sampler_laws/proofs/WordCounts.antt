@@ -46,7 +46,7 @@ refused s n c a e = absurd (cc)
 
 module _ (s : Sampler) (t : Typed s) (d : Asked) (trial : ℕ) (h : List ℕ) where
   abbrev words : Option Place → ℕ
-  words p = words_for s.settings s.dimensions s.n_dims p (served_history s h)
+  words p = words_for s.settings s.dimensions.list s.dimensions.count p (served_history s h)
 
   abbrev taking : ℕ
   taking = cond (past_discovery s trial && eqb (trial_place s.places trial) 32) (words None) (cond (stored_next s trial) 0 1)
@@ -76,7 +76,7 @@ module _ (s : Sampler) (t : Typed s) (d : Asked) (trial : ℕ) (h : List ℕ) wh
       let g = ready s (well s t p.ok) in
       let f = read_held d.kind d.low d.high d.log d.stepped d.step r p.read in
       accepted s taking (written_of (activated s) (spot_of s trial) v)
-      (serving-words s.settings s.dimensions s.n_dims s.word (held_by s.places trial) r trial (served_history s h) g.nonzero t.held (floats-fit r f.0, f.1) v e ∙ by_place r p a))
+      (serving-words s.settings s.dimensions.list s.dimensions.count s.word (held_by s.places trial) r trial (served_history s h) g.nonzero t.held (floats-fit r f.0, f.1) v e ∙ by_place r p a))
 
 counts : (s : Sampler) (c : Call) (a : Answer) → Typed s → (call_of s c).answer ≡ Ok a → a.drawn ≡ words_taken s c
 unfolding words_taken new_trial has_model

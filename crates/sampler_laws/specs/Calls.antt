@@ -24,18 +24,18 @@ use Rattle.sampler_state.specs.State.{empty_place, trial_place, held_by, spot_fo
 -- ---- a sampler with a field or two changed
 
 abbrev pub with_word : Sampler → ℕ → Sampler
-with_word s w = record { settings = s.settings; word = w; active = s.active; discovery_trial_id = s.discovery_trial_id; dimensions = s.dimensions; n_dims = s.n_dims; places = s.places }
+with_word s w = record { settings = s.settings; word = w; active = s.active; discovery_trial_id = s.discovery_trial_id; dimensions = s.dimensions; places = s.places }
 
 abbrev pub with_place : Sampler → ℕ → Option Place → Sampler
-with_place s i p = record { settings = s.settings; word = s.word; active = s.active; discovery_trial_id = s.discovery_trial_id; dimensions = s.dimensions; n_dims = s.n_dims; places = set s.places i p }
+with_place s i p = record { settings = s.settings; word = s.word; active = s.active; discovery_trial_id = s.discovery_trial_id; dimensions = s.dimensions; places = set s.places i p }
 
 -- discovery ended
 abbrev pub activated : Sampler → Sampler
-activated s = record { settings = s.settings; word = s.word; active = true; discovery_trial_id = s.discovery_trial_id; dimensions = s.dimensions; n_dims = s.n_dims; places = s.places }
+activated s = record { settings = s.settings; word = s.word; active = true; discovery_trial_id = s.discovery_trial_id; dimensions = s.dimensions; places = s.places }
 
 -- one more dimension, for the discovery trial
 abbrev pub with_dimension : Sampler → ℕ → Distribution → Sampler
-with_dimension s trial d = record { settings = s.settings; word = s.word; active = s.active; discovery_trial_id = trial; dimensions = set s.dimensions s.n_dims (dimension_of d); n_dims = s.n_dims + 1; places = s.places }
+with_dimension s trial d = record { settings = s.settings; word = s.word; active = s.active; discovery_trial_id = trial; dimensions = record { list = set s.dimensions.list s.dimensions.count (dimension_of d); count = s.dimensions.count + 1 }; places = s.places }
 
 -- ---- what a call answers
 
@@ -85,12 +85,12 @@ written_of s i r = drawn_of (with_place s i (Some r.place)) r.draw
 
 -- "The first trial number discovers."
 unfoldable pub discover_of : Sampler → Distribution → ℕ → Result Accepted Refusal
-discover_of s d trial = cond (eqb s.n_dims 20) (Err TooManyDimensions) (made (drawn_of (with_dimension s trial d)) (sample_random_of s.word d))
+discover_of s d trial = cond (eqb s.dimensions.count 20) (Err TooManyDimensions) (made (drawn_of (with_dimension s trial d)) (sample_random_of s.word d))
 
 -- a trial of this sampler: how it is served, and where its place is written
 abbrev pub serving_for : Sampler → Distribution → ℕ → List ℕ → Result Serving Refusal
 serving_for s d trial h =
-    serving_of s.settings s.dimensions s.n_dims s.word (held_by s.places trial) d trial h
+    serving_of s.settings s.dimensions.list s.dimensions.count s.word (held_by s.places trial) d trial h
 
 abbrev pub spot_of : Sampler → ℕ → ℕ
 spot_of s trial = spot_for s.places trial
@@ -106,7 +106,7 @@ unfoldable pub served_of : Sampler → Distribution → ℕ → List ℕ → Res
 unfolding discover_of active_of
 served_of s d trial h =
     cond s.active (active_of s d trial h)
-    (cond (eqb s.n_dims 0 || eqb trial s.discovery_trial_id) (discover_of s d trial) (active_of (activated s) d trial []))
+    (cond (eqb s.dimensions.count 0 || eqb trial s.discovery_trial_id) (discover_of s d trial) (active_of (activated s) d trial []))
 
 -- ---- the calls
 

@@ -45,22 +45,22 @@ has_next k None = false
 
 -- a trial whose next value is stored
 abbrev pub stored_next : Sampler → ℕ → Bool
-stored_next s trial = s.active && has_next s.n_dims (held_by s.places trial)
+stored_next s trial = s.active && has_next s.dimensions.count (held_by s.places trial)
 
 -- "a new trial takes the dimension count, or with a model candidates × continuous + choices; a stored value 0; any other 1"
 unfoldable pub words_taken : Sampler → Call → ℕ
 unfolding new_trial has_model
 words_taken s (asks d trial h) =
-    cond (new_trial s (asks d trial h)) (cond (has_model s h) (s.settings.n_candidates * continuous s + choices s) s.n_dims) (cond (stored_next s trial) 0 1)
+    cond (new_trial s (asks d trial h)) (cond (has_model s h) (s.settings.n_candidates * continuous s + choices s) s.dimensions.count) (cond (stored_next s trial) 0 1)
 words_taken s (closes trial) = 0
 
 -- what the types of a program say: a generator word of 64 bits, arrays of 20 and of 32, and floats that are binary64's
 pub record Typed (s : Sampler) : Type 0 where
   pub word : s.word < 2 ^ 64
-  pub dimensions : length s.dimensions ≡ 20
+  pub dimensions : length s.dimensions.list ≡ 20
   pub places : length s.places ≡ 32
-  pub held : (j : ℕ) → j < s.n_dims → Held (dimension_at s.dimensions j).distribution
-  pub ends : (j : ℕ) → j < s.n_dims → T (fits binary64 (dimension_at s.dimensions j).lo) × T (fits binary64 (dimension_at s.dimensions j).hi)
+  pub held : (j : ℕ) → j < s.dimensions.count → Held (dimension_at s.dimensions.list j).distribution
+  pub ends : (j : ℕ) → j < s.dimensions.count → T (fits binary64 (dimension_at s.dimensions.list j).lo) × T (fits binary64 (dimension_at s.dimensions.list j).hi)
 
 -- "Words drawn: the generator's moves in a call, 0 if refused."
 pub record WordsDrawn : Type 0 where
@@ -84,8 +84,8 @@ pub record NothingRefused : Type 0 where
   pub fit : (s : Sampler) (h : List ℕ) → Typed s → T (sampler_ok s) → check_of s.settings.slots h ≡ Ok tt → T (fit_made s h) → T (eqb (number_of (fit_answer s h)) 0 || eqb (number_of (fit_answer s h)) 12 || eqb (number_of (fit_answer s h)) 13)
   -- a new trial's values are made and in range: no decoding and no draw is refused, nor an exp or ln in it
   pub values : (s : Sampler) (h : List ℕ) → Typed s → T (sampler_ok s) → check_of s.settings.slots h ≡ Ok tt
-      → (c : Draw (List ParamValue)) × (compute_candidate_of s.settings s.dimensions s.n_dims s.word (served_history s h) ≡ Ok c)
-      × ((j : ℕ) → j < s.n_dims → T (stored_ok (dimension_at s.dimensions j).distribution (get_or c.value j empty_value)))
+      → (c : Draw (List ParamValue)) × (compute_candidate_of s.settings s.dimensions.list s.dimensions.count s.word (served_history s h) ≡ Ok c)
+      × ((j : ℕ) → j < s.dimensions.count → T (stored_ok (dimension_at s.dimensions.list j).distribution (get_or c.value j empty_value)))
   -- nor is any other draw
   pub random : (s : Sampler) (d : Distribution) → Held d → T (shape_of d) → Typed s → T (sampler_ok s)
       → (r : Draw ParamValue) × (sample_random_of s.word d ≡ Ok r) × T (stored_ok d r.value)

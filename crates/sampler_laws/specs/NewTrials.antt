@@ -23,7 +23,7 @@ use Rattle.sampler_state.specs.State.{stored_at, trial_place, held_by}
 
 -- a sampler without dimensions has no discovery trial yet
 abbrev pub past_discovery : Sampler → ℕ → Bool
-past_discovery s trial = s.active || not (eqb s.n_dims 0 || eqb trial s.discovery_trial_id)
+past_discovery s trial = s.active || not (eqb s.dimensions.count 0 || eqb trial s.discovery_trial_id)
 
 abbrev pub accepted : Sampler → Call → Bool
 accepted s c = is_ok (call_of s c).answer
@@ -39,7 +39,7 @@ abbrev pub served_history : Sampler → List ℕ → List ℕ
 served_history s h = cond s.active h []
 
 abbrev pub view_for : Sampler → List ℕ → View
-view_for s h = seen_of s.settings.slots s.settings.n_startup_trials s.dimensions s.n_dims (served_history s h)
+view_for s h = seen_of s.settings.slots s.settings.n_startup_trials s.dimensions.list s.dimensions.count (served_history s h)
 
 -- new trials "fit a model if a dimension is continuous and rows ≥ start-up"; training data that are not refused have a column for each continuous dimension
 abbrev pub fit_made : Sampler → List ℕ → Bool
@@ -54,10 +54,10 @@ has_model s h = fit_made s h && is_ok (fit_answer s h)
 -- ---- "The points drawn are the call's first candidates × continuous words as unit floats, point after point, one float per continuous dimension in order."
 
 abbrev pub continuous : Sampler → ℕ
-continuous s = length (columns_of s.dimensions s.n_dims)
+continuous s = length (columns_of s.dimensions.list s.dimensions.count)
 
 abbrev pub choices : Sampler → ℕ
-choices s = s.n_dims - continuous s
+choices s = s.dimensions.count - continuous s
 
 unfoldable pub point_drawn : Sampler → ℕ → List Float
 point_drawn s c = list_of (λ j. unit_of (get_or (stream_of (s.settings.n_candidates * continuous s) s.word) (c * continuous s + j) 0)) (continuous s)
@@ -69,8 +69,8 @@ point_drawn s c = list_of (λ j. unit_of (get_or (stream_of (s.settings.n_candid
 pub record Stores (s after : Sampler) (trial : ℕ) (point : List Float) : Type 0 where
   pub place : Place
   pub placed : held_by after.places trial ≡ Some place
-  pub decoded : (j : ℕ) → j < s.n_dims → T (continuous_of (dimension_at s.dimensions j).distribution)
-      → decode_of (dimension_at s.dimensions j) (get_or point (length (columns_of s.dimensions j)) nan) ≡ Ok (stored_at place j)
+  pub decoded : (j : ℕ) → j < s.dimensions.count → T (continuous_of (dimension_at s.dimensions.list j).distribution)
+      → decode_of (dimension_at s.dimensions.list j) (get_or point (length (columns_of s.dimensions.list j)) nan) ≡ Ok (stored_at place j)
 
 -- "the decoding of one point: the earliest drawn for it whose expected improvement under that model is at least that of every other one drawn for it. With no candidates it is the decoding of all 0.5."
 pub record StoresBest (s after : Sampler) (trial : ℕ) (m : Model) : Type 0 where

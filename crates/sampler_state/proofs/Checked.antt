@@ -10,9 +10,9 @@ use Rattle.dimensions.proofs.Ok.{dimensions-ok}
 use Rattle.sampler_state.specs.declared.Sampler.{Sampler}
 use Rattle.sampler_state.specs.State.{sampler_ok}
 
-pub dimensions_few : (s : Sampler) → sampler_ok s ≡ true → s.n_dims ≤ 20
+pub dimensions_few : (s : Sampler) → sampler_ok s ≡ true → s.dimensions.count ≤ 20
 unfolding sampler_ok
 dimensions_few s e =
     let t = taken e in
-    let d : T (dimensions_ok s.dimensions s.n_dims) = search parts depth 9 in
-    (dimensions-ok s.dimensions s.n_dims d).0
+    let d : T (dimensions_ok s.dimensions.list s.dimensions.count) = search parts depth 9 in
+    (dimensions-ok s.dimensions.list s.dimensions.count d).0

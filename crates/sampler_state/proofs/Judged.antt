@@ -1,7 +1,7 @@
 -- Places judged by a part of the dimensions' array are judged by the array. Assumes nothing.
 use Rattle.std.proofs.Common.{◌≡◌, ℕ, ◌≤◌, Bool, true, eqb, leb, le-leb, not, refl, Option, Some, None, sym, List, length, get_or, take, ap, arith, ◌∙◌}
 use mathlib.Core.Bool.{◌&&◌, ◌||◌}
-use Rattle.std.proofs.lemmas.List.{get_or-take, length-take-le}
+use Rattle.std.proofs.lemmas.List.{get_or-take}
 use Rattle.arith.specs.Lists.{every}
 use Rattle.arith.proofs.Lists.{every-same}
 use Rattle.dimensions.specs.declared.DimensionInfo.{DimensionInfo}
@@ -40,10 +40,11 @@ place_front a ds n (Some p) =
     (every-same n (λ j. stored_ok (dimension_at (take n ds) j).distribution (stored_at p j)) (λ j. stored_ok (dimension_at ds j).distribution (stored_at p j))
     (λ i h. ap (λ (d : DimensionInfo). stored_ok d.distribution (stored_at p i)) (get_or-take n ds i _ h)))
 
-places_front : (a : Bool) (ds : List DimensionInfo) (n : ℕ) → n ≤ length ds → (ps : List (Option Place)) → length ps ≡ 32
-    → list_all (place_ok a (take n ds) (length (take n ds))) ps ≡ every 32 (λ i. place_ok a ds n (place_at ps i))
-places_front a ds n h ps l =
-    ap (λ (k : ℕ). list_all (place_ok a (take n ds) k) ps) (length-take-le n ds h)
+places_front : (a : Bool) (ds : List DimensionInfo) (n : ℕ) (front : List DimensionInfo) → front ≡ take n ds → length front ≡ n → (ps : List (Option Place)) → length ps ≡ 32
+    → list_all (place_ok a front (length front)) ps ≡ every 32 (λ i. place_ok a ds n (place_at ps i))
+places_front a ds n front e h ps l =
+    ap (λ (k : ℕ). list_all (place_ok a front k) ps) h
+    ∙ ap (λ (fs : List DimensionInfo). list_all (place_ok a fs n) ps) e
     ∙ all_every (place_ok a (take n ds) n) ps empty_place 32 l
     ∙ every-same 32 (λ i. place_ok a (take n ds) n (place_at ps i)) (λ i. place_ok a ds n (place_at ps i)) (λ i l. place_front a ds n (place_at ps i))
 
@@ -54,11 +55,10 @@ pub dimensions_few : (ds : List DimensionInfo) (n : ℕ) → dimensions_ok ds n 
 dimensions_few ds n e = (dimensions-ok ds n (taken_test e)).0
 
 -- where what comes before is good, the places decide
-pub sampler_places : (s : Sampler) → length s.dimensions ≡ 20 → length s.places ≡ 32 → (settings_ok s.settings && not (eqb s.word 0) && (not s.active || leb 1 s.n_dims)) ≡ true
-    → dimensions_ok s.dimensions s.n_dims ≡ true
-    → sampler_ok s ≡ (list_all (place_ok s.active (take s.n_dims s.dimensions) (length (take s.n_dims s.dimensions))) s.places && trials_once s.places)
+pub sampler_places : (s : Sampler) (front : List DimensionInfo) → front ≡ take s.dimensions.count s.dimensions.list → length front ≡ s.dimensions.count → length s.places ≡ 32
+    → (settings_ok s.settings && not (eqb s.word 0) && (not s.active || leb 1 s.dimensions.count)) ≡ true → dimensions_ok s.dimensions.list s.dimensions.count ≡ true
+    → sampler_ok s ≡ (list_all (place_ok s.active front (length front)) s.places && trials_once s.places)
 unfolding sampler_ok
-sampler_places s n m h k =
-    let few = dimensions_few s.dimensions s.n_dims k in
-    regroup (settings_ok s.settings) (not (eqb s.word 0)) (dimensions_ok s.dimensions s.n_dims) (not s.active || leb 1 s.n_dims) _ (trials_once s.places) h k
-    ∙ sym (ap (λ (b : Bool). b && trials_once s.places) (places_front s.active s.dimensions s.n_dims (omega arith) s.places m))
+sampler_places s front e n m h k =
+    regroup (settings_ok s.settings) (not (eqb s.word 0)) (dimensions_ok s.dimensions.list s.dimensions.count) (not s.active || leb 1 s.dimensions.count) _ (trials_once s.places) h k
+    ∙ sym (ap (λ (b : Bool). b && trials_once s.places) (places_front s.active s.dimensions.list s.dimensions.count front e n s.places m))

@@ -30,7 +30,7 @@ empty_place = None
 
 -- as made from its settings
 abbrev pub fresh_of : Settings → Sampler
-fresh_of s = record { settings = s; word = s.seed; active = false; discovery_trial_id = 0; dimensions = replicate 20 empty_dimension; n_dims = 0; places = replicate 32 empty_place }
+fresh_of s = record { settings = s; word = s.seed; active = false; discovery_trial_id = 0; dimensions = record { list = replicate 20 empty_dimension; count = 0 }; places = replicate 32 empty_place }
 
 -- "setting out of range 1"
 unfoldable pub make_of : Settings → Result Sampler Refusal
@@ -114,5 +114,5 @@ trials_once places = every 32 (λ a. every a (λ b. not (same_trial (place_at pl
 unfoldable pub sampler_ok : Sampler → Bool
 unfolding place_ok trials_once
 sampler_ok s =
-    settings_ok s.settings && not (eqb s.word 0) && dimensions_ok s.dimensions s.n_dims && (not s.active || leb 1 s.n_dims)
-    && every 32 (λ i. place_ok s.active s.dimensions s.n_dims (place_at s.places i)) && trials_once s.places
+    settings_ok s.settings && not (eqb s.word 0) && dimensions_ok s.dimensions.list s.dimensions.count && (not s.active || leb 1 s.dimensions.count)
+    && every 32 (λ i. place_ok s.active s.dimensions.list s.dimensions.count (place_at s.places i)) && trials_once s.places

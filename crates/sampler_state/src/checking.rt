@@ -1,5 +1,5 @@
 // Whether a sampler is well-formed.
-ghost use Rattle.std.specs.Prelude.{◌≡◌, not, ◌&&◌, ◌||◌, ◌≤◌, eqb, leb, length};
+ghost use Rattle.std.specs.Prelude.{◌≡◌, not, ◌&&◌, ◌||◌, ◌≤◌, eqb, leb, length, take};
 ghost use Rattle.std.specs.List.{list_all, zip};
 ghost use Rattle.settings.specs.Settings.{settings_ok};
 ghost use Rattle.sampler_state.specs.State.{same_trial, trials_once};
@@ -80,10 +80,7 @@ impl Judge<'_> {
 fn same_trial(other: &Option<Place>, place: &Option<Place>) -> bool
     ensures { result ≡ same_trial other.now place.now }
 {
-    match other {
-        Some(held) => places::is_held_by(place, held.trial),
-        None => false,
-    }
+    matches!(other, Some(held) if places::is_held_by(place, held.trial))
 }
 
 // Whether none of the places before a place is taken by its trial.
@@ -107,9 +104,17 @@ fn trials_once(places: &[Option<Place>; 32]) -> bool
 
 // Whether its settings are in range, its word is not 0, and there is a dimension when it is active.
 fn start_ok(s: &Sampler) -> bool
-    ensures { result ≡ (settings_ok s.now.settings && not (eqb s.now.word 0) && (not s.now.active || leb 1 s.now.n_dims)) }
+    ensures { result ≡ (settings_ok s.now.settings && not (eqb s.now.word 0) && (not s.now.active || leb 1 s.now.dimensions.count)) }
 {
-    settings::in_range(s.settings) && s.word != 0 && (!s.active || 1 <= s.n_dims)
+    settings::in_range(s.settings) && s.word != 0 && (!s.active || 1 <= s.dimensions.count)
+}
+
+// The dimensions themselves.
+fn listed(dims: &Dimensions) -> &[DimensionInfo]
+    requires { dims.now.count ≤ 20 }
+    ensures { (result.now ≡ take dims.now.count dims.now.list) × (length result.now ≡ dims.now.count) }
+{
+    &dims.list[..dims.count]
 }
 
 // Whether a sampler is well-formed.
@@ -117,16 +122,13 @@ fn start_ok(s: &Sampler) -> bool
 pub fn sampler_ok(s: &Sampler) -> bool
     ensures { result ≡ sampler_ok s.now }
 {
-    let dims = Dimensions {
-        list: s.dimensions,
-        count: s.n_dims,
-    };
-    if !start_ok(s) || !dimensions::dimensions_ok(dims) {
+    if !start_ok(s) || !dimensions::dimensions_ok(s.dimensions) {
         return false;
     }
+    let dimensions = listed(&s.dimensions);
     let judge = Judge {
         active: s.active,
-        dimensions: &s.dimensions[..s.n_dims],
+        dimensions,
     };
     judge.places_ok(&s.places) && trials_once(&s.places)
 }

@@ -6,7 +6,7 @@ pub mod making;
 pub mod places;
 
 pub use checking::sampler_ok;
-use dimensions::DimensionInfo;
+use dimensions::Dimensions;
 use distribution::ParamValue;
 pub use making::{build, fresh};
 pub use places::{find, free_place, taken_count, trial_place};
@@ -27,8 +27,7 @@ pub struct Sampler {
     pub word: u64,
     pub active: bool,
     pub discovery_trial_id: u64,
-    pub dimensions: [DimensionInfo; 20],
-    pub n_dims: usize,
+    pub dimensions: Dimensions,
     pub places: [Option<Place>; 32],
 }
 

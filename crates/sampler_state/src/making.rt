@@ -3,7 +3,7 @@ ghost use Rattle.std.specs.Prelude.{◌≡◌};
 ghost use Rattle.sampler_state.specs.State.{fresh_of, make_of};
 
 use crate::Sampler;
-use dimensions::DimensionInfo;
+use dimensions::{DimensionInfo, Dimensions};
 use distribution::{CategoricalDistribution, Distribution};
 use refusal::Refusal;
 use settings::Settings;
@@ -17,15 +17,14 @@ pub fn fresh(settings: Settings) -> Sampler
         lo: 0.0,
         hi: 0.0,
     };
-    let dimensions = [dimension; 20];
+    let list = [dimension; 20];
     let places = [None; 32];
     Sampler {
         settings,
         word: settings.seed,
         active: false,
         discovery_trial_id: 0,
-        dimensions,
-        n_dims: 0,
+        dimensions: Dimensions { list, count: 0 },
         places,
     }
 }
