@@ -104,7 +104,8 @@ fn check(slots: usize, dims: Dimensions, h: &[u64]) -> Result<(), Refusal>
     history_rows::check(slots, h)
 }
 
-// The ids of the dimensions, from the first recent row of a history. A dimension may have none, and what lies past them has none.
+// The ids of the dimensions, from the first recent row of a history. A dimension may have none, and what lies past them
+// has none.
 pub fn establish_param_mapping(
     slots: usize,
     dims: Dimensions,
