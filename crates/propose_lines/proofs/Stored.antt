@@ -4,15 +4,13 @@ use mathlib.Core.Path.{◌≡◌, refl, ap, ◌∙◌}
 use mathlib.Core.Bool.{Bool, true, false, not}
 use mathlib.Core.List.{List, ◌++◌, append_assoc}
 use native.Mathlib.Omega.{arith}
-use borrow.Author.Tests.{le-leb}
-use lib.Dec.{leb}
 use lib.ListN.{length, take, drop}
 use lib.Seq.{paste, take-paste, take_at, length-take-le, take_all}
 use Rattle.arith.specs.Lists.{every}
 use Rattle.arith.proofs.Lists.{every-same, place_none, place_is}
 use Rattle.propose_lines.specs.Lines.{word_at, is_word, words_in}
 use Rattle.propose_lines.proofs.Words.{words_length}
-use Rattle.propose_lines.specs.Stored.{leading, room_for}
+use Rattle.propose_lines.specs.Stored.{leading}
 
 module _ (out : List ℕ) (at k : ℕ) (line : List ℕ) (room : at + k ≤ length out) where
   -- what stands before them
@@ -46,9 +44,3 @@ leading_first k line i h e n = place_is k _ i h (not-not i line e) (ap not n)
 
 -- what the end of a loop over the words of a line uses
 pub ruleset storing = (words_kept, words_read, leading_all, words_length)
-
--- ---- the room for them
-
--- the test of a number of words that is in range
-pub room-test : (k at places : ℕ) → 1 ≤ k → k ≤ 163 → room_for k at places ≡ leb (at + k) places
-room-test k at places some few = rw (le-leb 1 k some, le-leb k 163 few)

@@ -21,7 +21,7 @@ use Rattle.text_laws.specs.declared.Event.{Event}
 use Rattle.text_laws.specs.declared.Stage.{Stage}
 use Rattle.propose_lines.specs.Lines.{word_at, is_words, words_in, answer_line}
 use Rattle.propose_lines.specs.Names.{slots_names, history_names, answer_names, same_bytes}
-use Rattle.text_laws.specs.Steps.{reading_of, stepped_of, awaits, ends, settings_of, settings_line, row_words, row_line, history_line, sampled_of, answered_of, call_line, no_sampler, start_of, step_of, finish_of}
+use Rattle.text_laws.specs.Steps.{reading_of, stepped_of, awaits, ends, settings_of, settings_line, row_words, row_line, history_line, sampled_of, told_line, answered_of, call_line, no_sampler, start_of, step_of, finish_of}
 use Rattle.text_laws.specs.Texts.{read_of, ended, written_of, line_of, lines_of, Sized, Words, Table, joined, Document, WellFormed, head_of, text_of, calls_of, answer_lines, answers_to}
 use Rattle.text_laws.proofs.Tables.{at}
 
@@ -106,12 +106,13 @@ Written =
     (answer_line 7 3 1 1 ≡ take 68 output)
     × (answer_lines ((7 ∷ []) ∷ (7 ∷ []) ∷ []) (Ok (record { value = Some (ParamValue.Categorical 1); drawn = 1 }) ∷ Ok (record { value = Some (ParamValue.Int (pos 5)); drawn = 1 }) ∷ []) ≡ output)
     × ((answered_of 7 (record { answer = Err Refusal.Malformed; sampler = no_sampler }) start_of).written ≡ answer_line 7 0 2 0)
+    × (told_line 7 (Ok (record { value = None; drawn = 0 })) ≡ answer_line 7 0 0 0)
     × ((ends Refusal.Text start_of).written ≡ 48 ∷ 48 ∷ 48 ∷ 48 ∷ 48 ∷ 48 ∷ 48 ∷ 48 ∷ 48 ∷ 48 ∷ 48 ∷ 48 ∷ 48 ∷ 48 ∷ 48 ∷ 48 ∷ 32 ∷ 48 ∷ 48 ∷ 48 ∷ 48 ∷ 48 ∷ 48 ∷ 48 ∷ 48 ∷ 48 ∷ 48 ∷ 48 ∷ 48 ∷ 48 ∷ 48 ∷ 48 ∷ 48 ∷ 32 ∷ 48 ∷ 48 ∷ 48 ∷ 48 ∷ 48 ∷ 48 ∷ 48 ∷ 48 ∷ 48 ∷ 48 ∷ 48 ∷ 48 ∷ 48 ∷ 48 ∷ 48 ∷ 101 ∷ 32 ∷ 48 ∷ 48 ∷ 48 ∷ 48 ∷ 48 ∷ 48 ∷ 48 ∷ 48 ∷ 48 ∷ 48 ∷ 48 ∷ 48 ∷ 48 ∷ 48 ∷ 48 ∷ 48 ∷ 10 ∷ [])
     × ((ends Refusal.Settings start_of).reading.stage ≡ Stage.Ended)
 
 written-lines : Written
 unfolding answer_line answer_lines last_digits
-written-lines = (refl, refl, refl, refl, refl)
+written-lines = (refl, refl, refl, refl, refl, refl)
 
 -- ---- line by line
 
