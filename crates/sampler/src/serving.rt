@@ -3,7 +3,6 @@ ghost use Rattle.std.specs.Prelude.{◌≡◌, cond, ltb, Ok};
 ghost use Rattle.sampler_laws.specs.Calls.{next_of, past_of, new_trial_of, serving_of};
 
 use crate::Tested;
-use dimensions::Dimensions;
 use distribution::Distribution;
 use refusal::Refusal;
 use rng_util::Draw;
