@@ -38,10 +38,7 @@ fn matches(before: &[Option<u64>], d: Distribution, slot: &[u64]) -> bool
 fn beats(id: u64, best: Option<u64>) -> bool
     ensures { result ≡ beats_of id best }
 {
-    match best {
-        Some(other) => id < other,
-        None => true,
-    }
+    best.is_none_or(|other| id < other)
 }
 
 // The better of a slot and the entry found so far.
@@ -56,30 +53,39 @@ fn better(before: &[Option<u64>], d: Distribution, slot: &[u64], best: Option<u6
     best
 }
 
-// The first entry by id that the dimension after these may consume.
-fn first_entry(n: usize, row: &[u64], before: &[Option<u64>], d: Distribution) -> Option<u64>
-    requires { (n ≤ 20) × (length row.now ≡ width_of n) }
-    ensures { result ≡ first_entry (matches_of before.now (length before.now) d) (entries_of row.now n) }
-{
-    let mut best = None;
-    for s in 0..n {
-        let at = ROW_HEAD + SLOT_WORDS * s;
-        best = better(before, d, &row[at..at + SLOT_WORDS], best);
-    }
-    best
+// The row that gives the dimensions their ids.
+#[derive(Clone, Copy)]
+struct FirstRow<'a> {
+    slots: usize,
+    words: &'a [u64],
+    ghost whole: { (slots ≤ 20) × (length words.now ≡ width_of slots) },
 }
 
-// The ids of the dimensions in a row.
-fn mapped(n: usize, dims: &Dimensions, row: &[u64]) -> [Option<u64>; 20]
-    requires { (n ≤ 20) × (dims.now.count ≤ 20) × (length row.now ≡ width_of n) }
-    ensures { result ≡ filled None 20 (mapped_of n dims.now.list dims.now.count row.now) }
-{
-    let mut out = [None; 20];
-    for j in 0..dims.count {
-        let dim = dims.list[j];
-        out[j] = first_entry(n, row, &out[..j], dim.distribution);
+impl FirstRow<'_> {
+    // The first entry by id that the dimension after these may consume.
+    fn first_entry(&self, before: &[Option<u64>], d: Distribution) -> Option<u64>
+        ensures { result ≡ first_entry (matches_of before.now (length before.now) d) (entries_of self.now.words.now self.now.slots) }
+    {
+        let mut best = None;
+        for s in 0..self.slots {
+            let at = ROW_HEAD + SLOT_WORDS * s;
+            best = better(before, d, &self.words[at..at + SLOT_WORDS], best);
+        }
+        best
     }
-    out
+
+    // The ids of the dimensions in it.
+    fn mapped(&self, dims: &Dimensions) -> [Option<u64>; 20]
+        requires { dims.now.count ≤ 20 }
+        ensures { result ≡ filled None 20 (mapped_of self.now.slots dims.now.list dims.now.count self.now.words.now) }
+    {
+        let mut out = [None; 20];
+        for j in 0..dims.count {
+            let dim = dims.list[j];
+            out[j] = self.first_entry(&out[..j], dim.distribution);
+        }
+        out
+    }
 }
 
 // The mapping from the first of m recent rows; without one nothing is found.
@@ -90,7 +96,11 @@ fn recent_mapping(n: usize, dims: &Dimensions, m: usize, r: &[u64]) -> [Option<u
     if m == 0 {
         return [None; 20];
     }
-    mapped(n, dims, &r[..ROW_HEAD + SLOT_WORDS * n])
+    let first = FirstRow {
+        slots: n,
+        words: &r[..ROW_HEAD + SLOT_WORDS * n],
+    };
+    first.mapped(dims)
 }
 
 // The dimensions, and then the history's tests.
