@@ -34,10 +34,7 @@ fn is_between(ends: Option<(f64, f64)>, x: f64) -> bool
 fn is_inside(b: InternalBounds, x: f64) -> bool
     ensures { result ≡ inside b x }
 {
-    match b {
-        Ok(ends) => is_between(ends, x),
-        Err(_) => false,
-    }
+    b.is_ok_and(|ends| is_between(ends, x))
 }
 
 // Kept: one for each kind, since each moves to its own grid.
