@@ -1,14 +1,14 @@
 // The leaves of `exponential`, `logarithm`, `root` and `arith`: one float each.
-use crate::reply::{Reply, Results, floats, outcome, put_float};
+use crate::reply::{Reply, Results, floats, put_float};
 
 pub(crate) fn exp(args: &[u64], results: &mut Results) -> Reply {
     let [x]: [f64; 1] = floats(args)?;
-    put_float(outcome(exponential::exp(x))?, results)
+    put_float(exponential::exp(x)?, results)
 }
 
 pub(crate) fn ln(args: &[u64], results: &mut Results) -> Reply {
     let [x]: [f64; 1] = floats(args)?;
-    put_float(outcome(logarithm::ln(x))?, results)
+    put_float(logarithm::ln(x)?, results)
 }
 
 pub(crate) fn sqrt(args: &[u64], results: &mut Results) -> Reply {

@@ -74,10 +74,7 @@ fn read_word(text: &[u8]) -> Result<u64, Failure> {
     let [b' ', digits @ ..] = text else {
         return Err(Failure::Unreadable);
     };
-    match word_text::parse(digits) {
-        Some(w) => Ok(w),
-        None => Err(Failure::Unreadable),
-    }
+    word_text::parse(digits).ok_or(Failure::Unreadable)
 }
 
 // Reads the words of a line to the start of words. How many they are.

@@ -18,7 +18,6 @@ mod reply;
 mod runs;
 
 fn main(rt: HostRuntime) {
-    let mut input = input::Input::new();
-    let mut answers = input::Answers::new();
-    input.run(rt, &mut answers);
+    let mut answers = input::Answers::new(rt);
+    pieces::read_lines(rt, &mut answers, u64::MAX, usize::MAX);
 }

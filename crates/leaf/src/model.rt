@@ -2,7 +2,7 @@
 // its counts say is none of these.
 ghost use Rattle.std.specs.Prelude.{◌≡◌, ◌≤◌, length, IfOk};
 
-use crate::reply::{Failure, Reply, Results, Written, exactly, outcome, put, put_float};
+use crate::reply::{Failure, Reply, Results, Written, exactly, put, put_float};
 use gp_model::Model;
 use search::Candidate;
 
@@ -10,6 +10,7 @@ use search::Candidate;
 // Kept: d beside the rows, since a fit of no rows has columns too.
 #[derive(Clone, Copy)]
 struct FitData<'a> {
+    // Kept: a width; the rows stand in one slice, and know how many they are.
     d: usize,
     noise_var: f64,
     rows: &'a [u64],
@@ -48,7 +49,7 @@ pub(crate) fn matern52(args: &[u64], results: &mut Results) -> Reply {
     let xs = as_floats(words)?;
     let s = arith::float_of_word(*s);
     let k = kernel::matern52(&xs[..d], &xs[d..2 * d], &xs[2 * d..3 * d], s);
-    put_float(outcome(k)?, results)
+    put_float(k?, results)
 }
 
 // The data of a line of n, d, noise, n rows of d columns and n values, and the words after them.
@@ -71,19 +72,18 @@ fn data(args: &[u64]) -> Option<(FitData<'_>, &[u64])> {
 fn fit(data: FitData) -> Result<Model, Failure> {
     let rows = as_floats(data.rows)?;
     let values = as_floats(data.values)?;
-    outcome(gp_model::fit_gp(
+    let model = gp_model::fit_gp(
         &rows[..data.rows.len()],
         &values[..data.values.len()],
         data.d,
         data.noise_var,
-    ))
+    )?;
+    Ok(model)
 }
 
 // The model fitted to the data of a line, where this many words follow them, and those words.
 fn fitted(args: &[u64], after: u64) -> Result<(Model, &[u64]), Failure> {
-    let Some((data, words)) = data(args) else {
-        return Err(Failure::Unreadable);
-    };
+    let (data, words) = data(args).ok_or(Failure::Unreadable)?;
     if words.len() as u64 != after {
         return Err(Failure::Unreadable);
     }
@@ -126,7 +126,7 @@ pub(crate) fn predict(args: &[u64], results: &mut Results) -> Reply {
     };
     let (m, point) = fitted(args, *d)?;
     let xs = as_floats(point)?;
-    let p = outcome(prediction::predict(m, &xs[..point.len()]))?;
+    let p = prediction::predict(m, &xs[..point.len()])?;
     put(
         [arith::word_of_float(p.mean), arith::word_of_float(p.std)],
         results,
@@ -147,6 +147,6 @@ pub(crate) fn optimize_acquisition(args: &[u64], results: &mut Results) -> Reply
     let (m, words) = fitted(args, 2)?;
     let [candidates, word]: [u64; 2] = exactly(words)?;
     let d = m.d;
-    let found = outcome(search::optimize_acquisition(m, d, candidates, word))?;
+    let found = search::optimize_acquisition(m, d, candidates, word)?;
     put_point(found, d, results)
 }

@@ -8,6 +8,7 @@ use crate::reply::{Failure, Reply, Results};
 #[derive(Drop)]
 pub struct Output {
     buffer: [u8; 65536],
+    // Kept: fixed memory (document 01): an array, and how much of it is filled.
     len: usize,
     ghost within: { len ≤ 65536 },
 }
@@ -60,7 +61,7 @@ impl Output {
                 self.word(rt, 0);
                 self.words(rt, &results[..written.words]);
             }
-            Err(Failure::Refused(number)) => self.word(rt, number),
+            Err(Failure::Refused(refusal)) => self.word(rt, refusal.number()),
             Err(Failure::Unreadable) => self.put(rt, b"?"),
         }
         self.put(rt, b"\n");

@@ -5,10 +5,11 @@ ghost use Rattle.std.specs.Prelude.{◌≤◌, length};
 
 use crate::codings;
 use crate::model::put_floats;
-use crate::reply::{Failure, Reply, Results, Written, outcome, put};
+use crate::reply::{Failure, Reply, Results, Written, put};
 use dimensions::{DimensionInfo, Dimensions};
 use distribution::{CategoricalDistribution, Distribution};
 use history::Training;
+use refusal::Refusal;
 use slots::{ROW_HEAD, SLOT_WORDS};
 
 // What `mapping` and `training` read: the number of slots, the dimensions and a history.
@@ -26,7 +27,7 @@ pub(crate) fn history(args: &[u64], results: &mut Results) -> Reply {
         return Err(Failure::Unreadable);
     };
     let slots = *slots as usize;
-    outcome(history_rows::check(slots, h))?;
+    history_rows::check(slots, h)?;
     if slots > 20 {
         return Err(Failure::Unreadable);
     }
@@ -59,7 +60,7 @@ fn read_query(args: &[u64]) -> Result<Query<'_>, Failure> {
         return Err(Failure::Unreadable);
     }
     if k > 20 {
-        return Err(Failure::Refused(11));
+        return Err(Failure::Refused(Refusal::OutOfDomain));
     }
     let (dims, history) = words.split_at(6 * k);
     Ok(Query {
@@ -77,14 +78,14 @@ fn put_ids(ids: &[Option<u64>], results: &mut Results)
     requires { length ids.now ≤ 20 }
 {
     for (j, id) in ids.iter().enumerate() {
-        results[2 * j] = id.is_some() as u64;
+        results[2 * j] = u64::from(id.is_some());
         results[2 * j + 1] = id.unwrap_or(0);
     }
 }
 
 pub(crate) fn mapping(args: &[u64], results: &mut Results) -> Reply {
     let q = read_query(args)?;
-    let ids = outcome(param_mapping::establish_param_mapping(q.slots, q.dims, q.history))?;
+    let ids = param_mapping::establish_param_mapping(q.slots, q.dims, q.history)?;
     put_ids(&ids[..q.dims.count], results);
     Ok(Written {
         words: 2 * q.dims.count,
@@ -117,6 +118,6 @@ fn put_training(t: Training, results: &mut Results) -> Reply {
 
 pub(crate) fn training(args: &[u64], results: &mut Results) -> Reply {
     let q = read_query(args)?;
-    let t = outcome(history::build_training_data(q.slots, q.dims, q.history))?;
+    let t = history::build_training_data(q.slots, q.dims, q.history)?;
     put_training(t, results)
 }

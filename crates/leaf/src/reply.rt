@@ -1,5 +1,6 @@
 // What a call answers.
-ghost use Rattle.std.specs.Prelude.{◌≤◌};
+ghost use Rattle.std.specs.Prelude.{◌≡◌, ◌≤◌};
+ghost use Rattle.leaf.specs.declared.reply.Failure.TheVariants.{Refused};
 
 use refusal::Refusal;
 
@@ -13,11 +14,19 @@ pub struct Written {
     ghost fits: { words ≤ 8192 },
 }
 
-// Why a call has no result: a refusal's number, or the line is none of its leaf.
+// Why a call has no result: it is refused, or the line is none of its leaf.
 #[derive(Clone, Copy)]
 pub enum Failure {
-    Refused(u64),
+    Refused(Refusal),
     Unreadable,
+}
+
+impl From<Refusal> for Failure {
+    ghost from_gives = { λ r f. f ≡ Refused r };
+
+    fn from(refusal: Refusal) -> Failure {
+        Failure::Refused(refusal)
+    }
 }
 
 pub type Reply = Result<Written, Failure>;
@@ -44,18 +53,4 @@ pub(crate) fn floats<const N: usize>(args: &[u64]) -> Result<[f64; N], Failure> 
 // A result of one float.
 pub(crate) fn put_float(x: f64, results: &mut Results) -> Reply {
     put([arith::word_of_float(x)], results)
-}
-
-// What a call answers, its refusal by the number.
-pub(crate) fn outcome<T>(answer: Result<T, Refusal>) -> Result<T, Failure> {
-    answer.map_err(|refusal| Failure::Refused(refusal.number()))
-}
-
-// Refuses the call where the number of an answer is not 0.
-pub(crate) fn accepted(number: u64) -> Result<(), Failure> {
-    if number == 0 {
-        Ok(())
-    } else {
-        Err(Failure::Refused(number))
-    }
 }

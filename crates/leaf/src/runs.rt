@@ -3,8 +3,10 @@
 // leaf, whatever its settings are.
 ghost use Rattle.std.specs.Prelude.{◌+◌, ◌*◌, ◌≤◌, length, IfSome};
 
-use crate::reply::{Failure, Reply, Results, Written, accepted};
-use sampler_laws::Sampled;
+use crate::codings;
+use crate::reply::{Failure, Reply, Results, Written};
+use refusal::Refusal;
+use sampler_laws::{Answer, Sampled};
 use sampler_state::Sampler;
 use settings::Settings;
 
@@ -50,6 +52,18 @@ fn made(s: Sampler, call: Call) -> Sampled {
     }
 }
 
+// Four words for an answer: its number, its value's kind and word, and how many words it drew. A close has kind and
+// word 0, a refusal kind 0 and its number.
+fn told(answer: Result<Answer, Refusal>) -> [u64; 4] {
+    match answer {
+        Ok(Answer { value, drawn }) => {
+            let [kind, word] = value.map_or([0, 0], |v| codings::kind_and_word(v));
+            [0, kind, word, drawn]
+        }
+        Err(refusal) => [refusal.number(), 0, refusal.number(), 0],
+    }
+}
+
 // The calls, one after the other, and then the generator's word and the number of taken places. Each call has two words
 // or more, and puts four.
 fn calls(s: Sampler, words: &[u64], results: &mut Results) -> Reply
@@ -59,15 +73,14 @@ fn calls(s: Sampler, words: &[u64], results: &mut Results) -> Reply
     let mut rest = words;
     let mut to = 0;
     while let Some((call, after)) = first_call(rest) {
-        let r = made(held, call);
-        let (kind, word) = (distribution::kind(r.value), distribution::word(r.value));
-        results[to..to + 4].copy_from_slice(&[r.number, kind, word, r.drawn]);
-        held = r.sampler;
+        let Sampled { answer, sampler } = made(held, call);
+        results[to..to + 4].copy_from_slice(&told(answer));
+        held = sampler;
         rest = after;
         to += 4;
     }
     results[to] = held.word;
-    results[to + 1] = sampler_state::taken_count(held.places) as u64;
+    results[to + 1] = sampler_state::taken_count(&held.places) as u64;
     Ok(Written { words: to + 2 })
 }
 
@@ -78,13 +91,12 @@ pub(crate) fn run(args: &[u64], results: &mut Results) -> Reply {
     if words.len() > 4091 || !divides(words) {
         return Err(Failure::Unreadable);
     }
-    let m = sampler_state::build(Settings {
+    let s = sampler_state::build(Settings {
         n_startup_trials: *startup,
         n_candidates: *candidates,
         noise_variance: arith::float_of_word(*noise),
         seed: *seed,
         slots: *slots,
-    });
-    accepted(m.number)?;
-    calls(m.sampler, words, results)
+    })?;
+    calls(s, words, results)
 }

@@ -1,27 +1,25 @@
-// Standard input in pieces: one read, and what it leaves of a line moved to the front for the next.
+// Standard input in pieces: one read, the lines of an input one after the other, and many bytes passed over.
 #![tactic(auto)]
 
-ghost use Rattle.std.specs.Prelude.{◌≡◌, ◌≤◌, length};
+mod input;
+
+ghost use Rattle.std.specs.Prelude.{◌≡◌, ◌≤◌, length, IfSome};
 ghost use Rattle.pieces.specs.Kept.{kept_of};
 
+use input::Input;
+pub use input::Lines;
 use std::io::Read;
 
-// One read: how many bytes it put at the start of the buffer, 0 at the end of the input or where it failed.
-#[derive(Drop)]
-pub struct Filled {
-    pub n: usize,
-    pub failed: bool,
-}
-
-// Reads once; a failure is told on standard error. What is read no contract can say.
-pub fn fill(rt: HostRuntime, buf: &mut [u8]) -> Filled
-    ensures { result.n ≤ length buf.old }
+// Reads once: how many bytes are put at the start of the buffer, 0 at the end of the input. None where the read failed,
+// which is told on standard error. What is read no contract can say.
+pub fn fill(rt: HostRuntime, buf: &mut [u8]) -> Option<usize>
+    ensures { IfSome result (λ n. n ≤ length buf.old) }
 {
     match rt.stdin().read(buf) {
-        Ok(n) => Filled { n, failed: false },
+        Ok(n) => Some(n),
         Err(_) => {
             let _ = eprintln!(rt; "Standard input cannot be read.");
-            Filled { n: 0, failed: true }
+            None
         }
     }
 }
@@ -34,4 +32,31 @@ pub fn keep(buf: &mut [u8], used: usize, have: usize)
     if used <= have && have <= buf.len() {
         buf.copy_within(used..have, 0);
     }
+}
+
+// Hands the lines of the next `limit` bytes of standard input, or of those up to its end, to what takes them. A line of
+// more than `longest` bytes, or of 65,536, is too long to be held. How many of the bytes are not read.
+pub fn read_lines<T: Lines>(rt: HostRuntime, to: &mut T, limit: u64, longest: usize) -> u64
+    ensures { result ≤ limit }
+{
+    let mut input = Input::new(limit, longest);
+    input.run(rt, to);
+    input.left
+}
+
+// Passes over that many bytes of standard input. How many there were not.
+pub fn skip(rt: HostRuntime, count: u64) -> u64
+    ensures { result ≤ count }
+{
+    let mut buffer = [0u8; 65536];
+    let mut left = count;
+    // Kept: each turn takes off what a read gave, and no range says that.
+    while left > 0 {
+        let end = input::asked(buffer.len(), left);
+        match fill(rt, &mut buffer[..end]) {
+            None | Some(0) => return left,
+            Some(n) => left -= n as u64,
+        }
+    }
+    left
 }

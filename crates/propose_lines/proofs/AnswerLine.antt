@@ -3,11 +3,11 @@ use Prim.Native.Nat.{ℕ, ◌+◌}
 use mathlib.Core.Path.{◌≡◌, refl, sym, ap, ◌∙◌}
 use mathlib.Core.List.{List, [], ◌∷◌, ◌++◌, append-nil}
 use native.Mathlib.Omega.{arith}
-use lib.ListN.{length, take, drop, length-append, length-drop, drop_of_length-le}
+use lib.ListN.{length, drop, length-append, length-drop, drop_of_length-le}
 use lib.Seq.{paste, take_at, take_all, drop-append-add}
 use Rattle.word_text.specs.Digits.{digits_of}
 use Rattle.word_text.proofs.Digits.{length_last}
-use Rattle.propose_lines.specs.Lines.{printed, answer_line}
+use Rattle.propose_lines.specs.Lines.{printed}
 
 -- a word and the byte after it are 17 bytes
 pub printed-length : (w end : ℕ) → length (printed w end) ≡ 17
@@ -19,9 +19,9 @@ next p r s at e n =
     let d : drop (at + 17) (p ++ r) ≡ drop 17 r = ap (λ (k : ℕ). drop (k + 17) (p ++ r)) (sym e) ∙ drop-append-add p r 17 in
     rw (take_at p r at e, take_all 17 s (omega arith), d)
 
-pub four-words : (z : List ℕ) (a b c d : ℕ) → length z ≡ 68
+pub four_words : (z : List ℕ) (a b c d : ℕ) → length z ≡ 68
     → paste (paste (paste (paste z 0 (printed a 32) 17) 17 (printed b 32) 17) 34 (printed c 32) 17) 51 (printed d 10) 17 ≡ printed a 32 ++ printed b 32 ++ printed c 32 ++ printed d 10
-four-words z a b c d e =
+four_words z a b c d e =
     let A = printed a 32 in
     let B = printed b 32 in
     let C = printed c 32 in
@@ -41,19 +41,3 @@ four-words z a b c d e =
     let l3 = length-drop 17 (drop 17 (drop 17 z)) in
     let gone : drop 17 (drop 17 (drop 17 (drop 17 z))) ≡ [] = drop_of_length-le (drop 17 (drop 17 (drop 17 z))) {i = 17} (omega arith) in
     rw (one, two, three, four, gone) (append-nil (A ++ B ++ C ++ D))
-
-pub answer-length : (a b c d : ℕ) → length (answer_line a b c d) ≡ 68
-unfolding answer_line
-answer-length a b c d =
-    let la = printed-length a 32 in
-    let lb = printed-length b 32 in
-    let lc = printed-length c 32 in
-    let ld = printed-length d 10 in
-    let l1 = length-append (printed a 32) (printed b 32) in
-    let l2 = length-append (printed a 32 ++ printed b 32) (printed c 32) in
-    let l3 = length-append (printed a 32 ++ printed b 32 ++ printed c 32) (printed d 10) in
-    omega arith
-
--- all of it is written
-pub whole-line : (a b c d : ℕ) → take 68 (answer_line a b c d) ≡ answer_line a b c d
-whole-line a b c d = let l = answer-length a b c d in take_all 68 (answer_line a b c d) (omega arith)

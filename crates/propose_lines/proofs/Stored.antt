@@ -4,27 +4,25 @@ use mathlib.Core.Path.{◌≡◌, refl, ap, ◌∙◌}
 use mathlib.Core.Bool.{Bool, true, false, not}
 use mathlib.Core.List.{List, ◌++◌, append_assoc}
 use native.Mathlib.Omega.{arith}
-use borrow.Author.Tests.{le-leb}
-use lib.Dec.{leb}
 use lib.ListN.{length, take, drop}
 use lib.Seq.{paste, take-paste, take_at, length-take-le, take_all}
 use Rattle.arith.specs.Lists.{every}
 use Rattle.arith.proofs.Lists.{every-same, place_none, place_is}
 use Rattle.propose_lines.specs.Lines.{word_at, is_word, words_in}
-use Rattle.propose_lines.proofs.Words.{words-length}
-use Rattle.propose_lines.specs.Stored.{leading, room_for}
+use Rattle.propose_lines.proofs.Words.{words_length}
+use Rattle.propose_lines.specs.Stored.{leading}
 
 module _ (out : List ℕ) (at k : ℕ) (line : List ℕ) (room : at + k ≤ length out) where
   -- what stands before them
-  pub words-kept : (i : ℕ) → i ≤ k → take at (paste out at (words_in k line) i) ≡ take at out
-  words-kept i h =
+  pub words_kept : (i : ℕ) → i ≤ k → take at (paste out at (words_in k line) i) ≡ take at out
+  words_kept i h =
       let l : length (take at out) ≡ at = length-take-le at out (omega arith) in
       ap (take at) (append_assoc (take at out) (take i (words_in k line)) (drop (at + i) out)) ∙ take_at (take at out) (take i (words_in k line) ++ drop (at + i) out) at l
 
   -- all of them
-  pub words-read : take (at + k) (paste out at (words_in k line) k) ≡ take at out ++ words_in k line
-  words-read =
-      let l = words-length k line in
+  pub words_read : take (at + k) (paste out at (words_in k line) k) ≡ take at out ++ words_in k line
+  words_read =
+      let l = words_length k line in
       take-paste out at (words_in k line) k (omega arith) (omega arith) ∙ ap (λ (s : List ℕ). take at out ++ s) (take_all k (words_in k line) (omega arith))
 
 -- ---- how many there are
@@ -37,15 +35,12 @@ not-not k line e = every-same k _ _ (λ i h. twice (is_word (word_at line i))) �
     twice false = refl
 
 -- all of them
-pub leading-all : (k : ℕ) (line : List ℕ) → every k (λ i. is_word (word_at line i)) ≡ true → leading k line ≡ k
-leading-all k line e = place_none k _ (not-not k line e)
+pub leading_all : (k : ℕ) (line : List ℕ) → every k (λ i. is_word (word_at line i)) ≡ true → leading k line ≡ k
+leading_all k line e = place_none k _ (not-not k line e)
 
 -- those before the first that is none
-pub leading-first : (k : ℕ) (line : List ℕ) (i : ℕ) → i < k → every i (λ j. is_word (word_at line j)) ≡ true → is_word (word_at line i) ≡ false → leading k line ≡ i
-leading-first k line i h e n = place_is k _ i h (not-not i line e) (ap not n)
+pub leading_first : (k : ℕ) (line : List ℕ) (i : ℕ) → i < k → every i (λ j. is_word (word_at line j)) ≡ true → is_word (word_at line i) ≡ false → leading k line ≡ i
+leading_first k line i h e n = place_is k _ i h (not-not i line e) (ap not n)
 
--- ---- the room for them
-
--- the test of a number of words that is in range
-pub room-test : (k at places : ℕ) → 1 ≤ k → k ≤ 163 → room_for k at places ≡ leb (at + k) places
-room-test k at places some few = rw (le-leb 1 k some, le-leb k 163 few)
+-- what the end of a loop over the words of a line uses
+pub ruleset storing = (words_kept, words_read, leading_all, words_length)

@@ -1,20 +1,15 @@
--- The words of a line, and a word of an array that holds them. Assumes nothing.
+-- The words of a line. Assumes nothing.
 use Prim.Native.Nat.{ℕ, ◌<◌}
-use mathlib.Core.Path.{◌≡◌, sym, ap, ◌∙◌}
+use mathlib.Core.Path.{◌≡◌}
 use mathlib.Core.List.{List}
-use lib.ListN.{length, get_or, take}
-use lib.Seq.{get_or-take}
+use lib.ListN.{length, get_or}
 use Rattle.arith.proofs.Lists.{grown-length, grown-read}
 use Rattle.propose_lines.specs.Lines.{word_at, word_of, words_in}
 
-pub words-length : (k : ℕ) (line : List ℕ) → length (words_in k line) ≡ k
+pub words_length : (k : ℕ) (line : List ℕ) → length (words_in k line) ≡ k
 unfolding words_in
-words-length k line = grown-length _ k
+words_length k line = grown-length _ k
 
-pub words-at : (k : ℕ) (line : List ℕ) (i : ℕ) → i < k → get_or (words_in k line) i 0 ≡ word_of (word_at line i)
+pub words_at : (k : ℕ) (line : List ℕ) (i : ℕ) → i < k → get_or (words_in k line) i 0 ≡ word_of (word_at line i)
 unfolding words_in
-words-at k line i h = grown-read _ k i 0 h
-
--- a word of an array that holds the words
-pub read_at : (k : ℕ) (after line : List ℕ) → take k after ≡ words_in k line → (i : ℕ) → i < k → get_or after i 0 ≡ get_or (words_in k line) i 0
-read_at k after line e i h = sym (get_or-take k after i 0 h) ∙ ap (λ (l : List ℕ). get_or l i 0) e
+words_at k line i h = grown-read _ k i 0 h

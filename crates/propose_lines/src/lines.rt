@@ -12,7 +12,7 @@ fn is_spaced(line: &[u8], k: usize) -> bool
 }
 
 // Reads the words that stand at every 17th byte into out, from `at` on.
-#[tactic(auto, unfolding(arith::specs::Lists::every))]
+#[tactic(auto, using(crate::proofs::Stored::storing), unfolding(arith::specs::Lists::every))]
 fn store_words(line: &[u8], k: usize, out: &mut [u64], at: usize) -> bool
     requires { (length line.now + 1 ≡ 17 * k) × (at + k ≤ length out.old) }
     ensures { WordsStored line.now k at out.old out.new result }
@@ -34,7 +34,8 @@ fn has_room(k: usize, at: usize, places: usize) -> bool
     (1..=163).contains(&k) && k <= places && at <= places - k
 }
 
-// Whether a line is k words, and they, from `at` on. What stands before `at` stays. Where there is no room for k words, or for none or over 163: false, and all stays.
+// Whether a line is k words, and they, from `at` on. What stands before `at` stays. Where there is no room for k words,
+// or for none or over 163: false, and all stays.
 #[tactic(auto, unfolding(crate::specs::Lines::is_words))]
 pub fn read_words(line: &[u8], k: usize, out: &mut [u64], at: usize) -> bool
     ensures { WordsRead line.now k at out.old out.new result }

@@ -25,6 +25,7 @@ pub fn is_calls(line: &[u8]) -> bool
 }
 
 // Whether these are the names of n slots.
+#[tactic(auto, using(crate::proofs::SlotNames::slot_by_slot), unfolding(crate::specs::Names::slots_names))]
 fn is_slots(line: &[u8], n: u64) -> bool
     ensures { result ≡ same_bytes line.now (slots_names n) }
 {
@@ -38,6 +39,7 @@ fn is_slots(line: &[u8], n: u64) -> bool
     rest.is_empty()
 }
 
+#[tactic(auto, using(crate::proofs::SlotNames::history_left))]
 pub fn is_history(line: &[u8], n: u64) -> bool
     ensures { result ≡ same_bytes line.now (history_names n) }
 {

@@ -1,10 +1,13 @@
 // One line after the other.
 ghost use Rattle.std.specs.Prelude.{◌≡◌, cond, List, ℕ, min, length};
-ghost use Rattle.text_laws.specs.Steps.{Reading, reading_of, stepped_of, awaits, ends, named, settings_of, settings_line, row_line, history_line, call_line, history_named, sampled_of, answered_of, start_of, step_of, finish_at, finish_of};
+ghost use Rattle.refusal.specs.declared.Refusal.{Refusal};
+ghost use Rattle.text_laws.specs.Steps.{Reading, reading_of, stepped_of, awaits, ends, named, settings_of, settings_line, row_line, history_line, call_line, history_named, sampled_of, value_line, told_line, answered_of, start_of, step_of, finish_at, finish_of};
 ghost use Rattle.text_laws.specs.declared.Event.{Event};
 ghost use Rattle.text_laws.specs.declared.Stage.{Stage};
 
-use sampler_laws::Sampled;
+use distribution::ParamValue;
+use refusal::Refusal;
+use sampler_laws::{Answer, Sampled};
 use settings::Settings;
 use slots::{ROW_HEAD, SLOT_WORDS};
 use text_laws::{Event, Reader, Stage, Step};
@@ -16,23 +19,21 @@ fn awaiting(reader: Reader, event: Event) -> Step
     Step {
         reader,
         event,
-        len: 0,
-        bytes: [0; 68],
+        line: None,
     }
 }
 
-// The run ends with a number.
-fn ending(number: u64, reader: Reader) -> Step
-    ensures { (h : List ℕ) → stepped_of result h ≡ ends number (reading_of reader h) }
+// The run ends with a refusal.
+fn ending(refusal: Refusal, reader: Reader) -> Step
+    ensures { (h : List ℕ) → stepped_of result h ≡ ends refusal (reading_of reader h) }
 {
     Step {
         reader: Reader {
             stage: Stage::Ended,
             ..reader
         },
-        event: Event::Refused(number),
-        len: 68,
-        bytes: propose_lines::answer_line(0, 0, number, 0),
+        event: Event::Refused(refusal),
+        line: Some(propose_lines::answer_line(0, 0, refusal.number(), 0)),
     }
 }
 
@@ -43,7 +44,7 @@ fn after_names(ok: bool, stage: Stage, r: Reader) -> Step
     if ok {
         return awaiting(Reader { stage, ..r }, Event::Names);
     }
-    ending(14, r)
+    ending(Refusal::Text, r)
 }
 
 // The settings that five words are.
@@ -60,23 +61,25 @@ fn settings_of(words: [u64; 5]) -> Settings
 }
 
 // The line of the settings: a sampler is made of them.
+#[tactic(auto, unfolding(text_laws::specs::Steps::settings_line))]
 fn settings_line(r: Reader, line: &[u8]) -> Step
     ensures { (h : List ℕ) → stepped_of result h ≡ settings_line (reading_of r h) line.now }
 {
     let mut words = [0u64; 5];
     if !propose_lines::read_words(line, 5, &mut words, 0) {
-        return ending(14, r);
+        return ending(Refusal::Text, r);
     }
-    let made = sampler_state::build(settings_of(words));
-    if made.number != 0 {
-        return ending(made.number, r);
+    match sampler_state::build(settings_of(words)) {
+        Ok(sampler) => awaiting(
+            Reader {
+                stage: Stage::HistoryNames,
+                sampler,
+                ..r
+            },
+            Event::Settings,
+        ),
+        Err(refusal) => ending(refusal, r),
     }
-    let fresh = Reader {
-        stage: Stage::HistoryNames,
-        sampler: made.sampler,
-        ..r
-    };
-    awaiting(fresh, Event::Settings)
 }
 
 // Whether a line has the history's names for the sampler.
@@ -95,17 +98,18 @@ fn held(count: usize) -> usize
 }
 
 // A row: its words go behind those that are there, as long as the array has room for them.
+#[tactic(auto, unfolding(text_laws::specs::Steps::row_line))]
 fn row_line(r: Reader, line: &[u8], history: &mut [u64; 8192]) -> Step
     ensures { stepped_of result history.new ≡ row_line (reading_of r history.old) line.now }
 {
     let slots = r.sampler.settings.slots;
     let at = held(r.count);
     if slots > 20 {
-        return ending(14, Reader { count: at, ..r });
+        return ending(Refusal::Text, Reader { count: at, ..r });
     }
     let k = ROW_HEAD + SLOT_WORDS * slots as usize;
     if !propose_lines::read_words(line, k, history, at) {
-        return ending(14, Reader { count: at, ..r });
+        return ending(Refusal::Text, Reader { count: at, ..r });
     }
     let more = Reader {
         stage: Stage::History,
@@ -116,6 +120,7 @@ fn row_line(r: Reader, line: &[u8], history: &mut [u64; 8192]) -> Step
 }
 
 // A row, or the names of the calls.
+#[tactic(auto, unfolding(text_laws::specs::Steps::history_line))]
 fn history_line(r: Reader, line: &[u8], history: &mut [u64; 8192]) -> Step
     ensures { stepped_of result history.new ≡ history_line (reading_of r history.old) line.now }
 {
@@ -129,11 +134,32 @@ fn history_line(r: Reader, line: &[u8], history: &mut [u64; 8192]) -> Step
     row_line(r, line, history)
 }
 
+// The line of an accepted call.
+fn value_line(trial: u64, value: Option<ParamValue>, drawn: u64) -> [u8; 68]
+    ensures { result ≡ value_line trial value drawn }
+{
+    match value {
+        Some(v) => {
+            propose_lines::answer_line(trial, distribution::kind(v), distribution::word(v), drawn)
+        }
+        None => propose_lines::answer_line(trial, 0, 0, drawn),
+    }
+}
+
+// The line of an answer.
+fn told_line(trial: u64, answer: Result<Answer, Refusal>) -> [u8; 68]
+    ensures { result ≡ told_line trial answer }
+{
+    match answer {
+        Ok(a) => value_line(trial, a.value, a.drawn),
+        Err(refusal) => propose_lines::answer_line(trial, 0, refusal.number(), 0),
+    }
+}
+
 // An answer's line, and the sampler that it handed back.
 fn answered(trial: u64, a: Sampled, count: usize) -> Step
     ensures { (h : List ℕ) → stepped_of result h ≡ answered_of trial a (reading_of (record { stage = Stage.Calls; sampler = a.sampler; count = count }) h) }
 {
-    let value = a.value;
     Step {
         reader: Reader {
             stage: Stage::Calls,
@@ -141,17 +167,12 @@ fn answered(trial: u64, a: Sampled, count: usize) -> Step
             count,
         },
         event: Event::Call,
-        len: 68,
-        bytes: propose_lines::answer_line(
-            trial,
-            distribution::kind(value),
-            distribution::word(value),
-            a.drawn,
-        ),
+        line: Some(told_line(trial, a.answer)),
     }
 }
 
 // What the sampler answers to the seven words of a call.
+#[tactic(auto, using(crate::proofs::Held::held_part))]
 fn called(r: &Reader, words: [u64; 7], history: &[u64; 8192]) -> Sampled
     ensures { result ≡ sampled_of (reading_of r.now history.now) words }
 {
@@ -170,22 +191,24 @@ fn called(r: &Reader, words: [u64; 7], history: &[u64; 8192]) -> Sampled
 }
 
 // A call on the sampler.
+#[tactic(auto, unfolding(text_laws::specs::Steps::call_line))]
 fn call_line(r: Reader, line: &[u8], history: &[u64; 8192]) -> Step
     ensures { stepped_of result history.now ≡ call_line (reading_of r history.now) line.now }
 {
     let mut words = [0u64; 7];
     if !propose_lines::read_words(line, 7, &mut words, 0) {
-        return ending(14, r);
+        return ending(Refusal::Text, r);
     }
     let a = called(&r, words, history);
     answered(words[0], a, r.count)
 }
 
 // A reader at the start of the input.
+#[tactic(auto, unfolding(text_laws::specs::Steps::start_of))]
 pub fn start() -> Reader
     ensures { (h : List ℕ) → reading_of result h ≡ start_of }
 {
-    let made = sampler_state::build(Settings {
+    let sampler = sampler_state::fresh(Settings {
         n_startup_trials: 0,
         n_candidates: 0,
         noise_variance: 0.0,
@@ -194,12 +217,13 @@ pub fn start() -> Reader
     });
     Reader {
         stage: Stage::SettingsNames,
-        sampler: made.sampler,
+        sampler,
         count: 0,
     }
 }
 
 // One line of the input, without its newline. The array holds the history from row to row.
+#[tactic(auto, unfolding(text_laws::specs::Steps::step_of))]
 pub fn read_line(r: Reader, line: &[u8], history: &mut [u64; 8192]) -> Step
     ensures { stepped_of result history.new ≡ step_of (reading_of r history.old) line.now }
 {
@@ -215,16 +239,17 @@ pub fn read_line(r: Reader, line: &[u8], history: &mut [u64; 8192]) -> Step
 
 // Whether a text may end where this line is awaited, with what stands after its last newline.
 fn may_end(stage: Stage, rest: &[u8]) -> bool
-    ensures { (r : Reading) → finish_at stage r rest.now ≡ cond result (awaits Stage.Ended Event.Nothing r) (ends 14 r) }
+    ensures { (r : Reading) → finish_at stage r rest.now ≡ cond result (awaits Stage.Ended Event.Nothing r) (ends Refusal.Text r) }
 {
     match stage {
-        Stage::Calls => rest.len() == 0,
+        Stage::Calls => rest.is_empty(),
         Stage::Ended => true,
         _ => false,
     }
 }
 
 // The end of the input, with what stands after its last newline.
+#[tactic(auto, unfolding(text_laws::specs::Steps::finish_of))]
 pub fn finish(r: Reader, rest: &[u8]) -> Step
     ensures { (h : List ℕ) → stepped_of result h ≡ finish_of (reading_of r h) rest.now }
 {
@@ -235,5 +260,5 @@ pub fn finish(r: Reader, rest: &[u8]) -> Step
         };
         return awaiting(ended, Event::Nothing);
     }
-    ending(14, r)
+    ending(Refusal::Text, r)
 }

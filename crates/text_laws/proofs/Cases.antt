@@ -1,5 +1,5 @@
 -- The definitions of texts at single points, computed. Assumes nothing.
-use Rattle.std.specs.Prelude.{Some, None}
+use Rattle.std.specs.Prelude.{Some, None, Ok, Err}
 use Prim.Native.Nat.{ℕ, ◌^◌}
 use mathlib.Core.Path.{◌≡◌, refl}
 use mathlib.Core.Bool.{true, false}
@@ -11,16 +11,17 @@ use lib.ListN.{length, take, drop}
 use Rattle.arith.specs.Lists.{every, grown}
 use Rattle.word_text.specs.Digits.{all_digits, of_digits, last_digits}
 use Rattle.distribution.specs.declared.ParamValue.{ParamValue}
+use Rattle.refusal.specs.declared.Refusal.{Refusal}
 use Rattle.settings.specs.Settings.{settings_ok}
 use Rattle.sampler_laws.specs.Calls.{sample_of}
 use Rattle.sampler_laws.specs.Runs.{asks}
 use Rattle.sampler_state.specs.declared.Sampler.{Sampler}
-use Rattle.sampler_state.specs.State.{make_of, fresh_of, no_sampler}
+use Rattle.sampler_state.specs.State.{make_of, fresh_of}
 use Rattle.text_laws.specs.declared.Event.{Event}
 use Rattle.text_laws.specs.declared.Stage.{Stage}
 use Rattle.propose_lines.specs.Lines.{word_at, is_words, words_in, answer_line}
 use Rattle.propose_lines.specs.Names.{slots_names, history_names, answer_names, same_bytes}
-use Rattle.text_laws.specs.Steps.{reading_of, stepped_of, awaits, ends, settings_of, settings_line, row_words, row_line, history_line, sampled_of, answered_of, call_line, start_of, step_of, finish_of}
+use Rattle.text_laws.specs.Steps.{reading_of, stepped_of, awaits, ends, settings_of, settings_line, row_words, row_line, history_line, sampled_of, told_line, answered_of, call_line, no_sampler, start_of, step_of, finish_of}
 use Rattle.text_laws.specs.Texts.{read_of, ended, written_of, line_of, lines_of, Sized, Words, Table, joined, Document, WellFormed, head_of, text_of, calls_of, answer_lines, answers_to}
 use Rattle.text_laws.proofs.Tables.{at}
 
@@ -103,14 +104,15 @@ output =
 abbrev Written : Type 0
 Written =
     (answer_line 7 3 1 1 ≡ take 68 output)
-    × (answer_lines ((7 ∷ []) ∷ (7 ∷ []) ∷ []) ((0, ParamValue.Categorical 1, 1) ∷ (0, ParamValue.Int (pos 5), 1) ∷ []) ≡ output)
-    × ((answered_of 7 (record { number = 2; value = ParamValue.Refused 2; drawn = 0; sampler = no_sampler }) start_of).written ≡ answer_line 7 0 2 0)
-    × ((ends 14 start_of).written ≡ 48 ∷ 48 ∷ 48 ∷ 48 ∷ 48 ∷ 48 ∷ 48 ∷ 48 ∷ 48 ∷ 48 ∷ 48 ∷ 48 ∷ 48 ∷ 48 ∷ 48 ∷ 48 ∷ 32 ∷ 48 ∷ 48 ∷ 48 ∷ 48 ∷ 48 ∷ 48 ∷ 48 ∷ 48 ∷ 48 ∷ 48 ∷ 48 ∷ 48 ∷ 48 ∷ 48 ∷ 48 ∷ 48 ∷ 32 ∷ 48 ∷ 48 ∷ 48 ∷ 48 ∷ 48 ∷ 48 ∷ 48 ∷ 48 ∷ 48 ∷ 48 ∷ 48 ∷ 48 ∷ 48 ∷ 48 ∷ 48 ∷ 101 ∷ 32 ∷ 48 ∷ 48 ∷ 48 ∷ 48 ∷ 48 ∷ 48 ∷ 48 ∷ 48 ∷ 48 ∷ 48 ∷ 48 ∷ 48 ∷ 48 ∷ 48 ∷ 48 ∷ 48 ∷ 10 ∷ [])
-    × ((ends 1 start_of).reading.stage ≡ Stage.Ended)
+    × (answer_lines ((7 ∷ []) ∷ (7 ∷ []) ∷ []) (Ok (record { value = Some (ParamValue.Categorical 1); drawn = 1 }) ∷ Ok (record { value = Some (ParamValue.Int (pos 5)); drawn = 1 }) ∷ []) ≡ output)
+    × ((answered_of 7 (record { answer = Err Refusal.Malformed; sampler = no_sampler }) start_of).written ≡ answer_line 7 0 2 0)
+    × (told_line 7 (Ok (record { value = None; drawn = 0 })) ≡ answer_line 7 0 0 0)
+    × ((ends Refusal.Text start_of).written ≡ 48 ∷ 48 ∷ 48 ∷ 48 ∷ 48 ∷ 48 ∷ 48 ∷ 48 ∷ 48 ∷ 48 ∷ 48 ∷ 48 ∷ 48 ∷ 48 ∷ 48 ∷ 48 ∷ 32 ∷ 48 ∷ 48 ∷ 48 ∷ 48 ∷ 48 ∷ 48 ∷ 48 ∷ 48 ∷ 48 ∷ 48 ∷ 48 ∷ 48 ∷ 48 ∷ 48 ∷ 48 ∷ 48 ∷ 32 ∷ 48 ∷ 48 ∷ 48 ∷ 48 ∷ 48 ∷ 48 ∷ 48 ∷ 48 ∷ 48 ∷ 48 ∷ 48 ∷ 48 ∷ 48 ∷ 48 ∷ 48 ∷ 101 ∷ 32 ∷ 48 ∷ 48 ∷ 48 ∷ 48 ∷ 48 ∷ 48 ∷ 48 ∷ 48 ∷ 48 ∷ 48 ∷ 48 ∷ 48 ∷ 48 ∷ 48 ∷ 48 ∷ 48 ∷ 10 ∷ [])
+    × ((ends Refusal.Settings start_of).reading.stage ≡ Stage.Ended)
 
 written-lines : Written
 unfolding answer_line answer_lines last_digits
-written-lines = (refl, refl, refl, refl, refl)
+written-lines = (refl, refl, refl, refl, refl, refl)
 
 -- ---- line by line
 
@@ -118,22 +120,23 @@ written-lines = (refl, refl, refl, refl, refl)
 abbrev made : Sampler
 made = fresh_of (settings_of (10 ∷ 0 ∷ 0 ∷ 1 ∷ 1 ∷ []))
 
--- a reader's part of its array, and a step's bytes
+-- a reader's part of its array, and what a step with a line and one without write
 abbrev Readers : Type 0
 Readers =
     (reading_of (record { stage = Stage.History; sampler = made; count = 2 }) (5 ∷ 6 ∷ 7 ∷ []) ≡ at Stage.History made (5 ∷ 6 ∷ []))
-    × ((stepped_of (record { reader = record { stage = Stage.History; sampler = made; count = 2 }; event = Event.Row; len = 1; bytes = 48 ∷ 49 ∷ [] }) []).written ≡ 48 ∷ [])
+    × ((stepped_of (record { reader = record { stage = Stage.History; sampler = made; count = 2 }; event = Event.Call; line = Some (48 ∷ 49 ∷ []) }) []).written ≡ 48 ∷ 49 ∷ [])
+    × ((stepped_of (record { reader = record { stage = Stage.History; sampler = made; count = 2 }; event = Event.Row; line = None }) []).written ≡ [])
 
 readers : Readers
-readers = (refl, refl)
+readers = (refl, refl, refl)
 
 -- the five settings in order; the settings line, with 0 slots, and a digit short
 abbrev Settings : Type 0
 Settings =
     (settings_of (1 ∷ 2 ∷ 3 ∷ 4 ∷ 5 ∷ []) ≡ record { n_startup_trials = 1; n_candidates = 2; noise_variance = of_bits binary64 3; seed = 4; slots = 5 })
     × (step_of (at Stage.Settings no_sampler []) settings ≡ record { reading = at Stage.HistoryNames made []; event = Event.Settings; written = [] })
-    × (step_of (at Stage.Settings no_sampler []) (take 83 settings ++ (48 ∷ [])) ≡ ends 1 (at Stage.Settings no_sampler []))
-    × (step_of (at Stage.Settings no_sampler []) (take 83 settings) ≡ ends 14 (at Stage.Settings no_sampler []))
+    × (step_of (at Stage.Settings no_sampler []) (take 83 settings ++ (48 ∷ [])) ≡ ends Refusal.Settings (at Stage.Settings no_sampler []))
+    × (step_of (at Stage.Settings no_sampler []) (take 83 settings) ≡ ends Refusal.Text (at Stage.Settings no_sampler []))
 
 settings-lines : Settings
 unfolding step_of settings_line is_words words_in word_at every grown all_digits of_digits make_of settings_ok of_bits le lt eq
@@ -143,7 +146,7 @@ settings-lines = (refl, refl, refl, refl)
 abbrev HistoryNames : Type 0
 HistoryNames =
     (step_of (at Stage.HistoryNames made []) (take 57 (drop 121 sample)) ≡ awaits Stage.History Event.Names (at Stage.HistoryNames made []))
-    × (step_of (at Stage.HistoryNames made []) (take 57 (drop 121 sample) ++ take 40 (drop 138 sample)) ≡ ends 14 (at Stage.HistoryNames made []))
+    × (step_of (at Stage.HistoryNames made []) (take 57 (drop 121 sample) ++ take 40 (drop 138 sample)) ≡ ends Refusal.Text (at Stage.HistoryNames made []))
 
 history-names : HistoryNames
 unfolding step_of slots_names same_bytes
@@ -157,7 +160,7 @@ abbrev Rows : Type 0
 Rows =
     (row_words 20 ≡ 163)
     × (step_of (at Stage.History made (8 ∷ [])) row ≡ record { reading = at Stage.History made (8 ∷ 5 ∷ 1 ∷ 0 ∷ 9 ∷ 3 ∷ 4 ∷ 0 ∷ 0 ∷ 0 ∷ 0 ∷ 2 ∷ []); event = Event.Row; written = [] })
-    × (step_of (at Stage.History made []) (take 169 row) ≡ ends 14 (at Stage.History made []))
+    × (step_of (at Stage.History made []) (take 169 row) ≡ ends Refusal.Text (at Stage.History made []))
     × (step_of (at Stage.History made []) (take 36 (drop 179 sample)) ≡ awaits Stage.Calls Event.CallsBegin (at Stage.History made []))
 
 rows : Rows
@@ -173,7 +176,7 @@ row-at-the-limit : (h : List ℕ) → length h ≡ 8181 → (row_line (at Stage.
 unfolding row_line
 row-at-the-limit h e = rw (e, row_words_lem)
 
-row-over-the-limit : (h : List ℕ) → length h ≡ 8182 → (row_line (at Stage.History made h) row).event ≡ Event.Refused 14
+row-over-the-limit : (h : List ℕ) → length h ≡ 8182 → (row_line (at Stage.History made h) row).event ≡ Event.Refused Refusal.Text
 unfolding row_line
 row-over-the-limit h e = rw e
 
@@ -182,7 +185,7 @@ abbrev Calls : Type 0
 Calls =
     (sampled_of (at Stage.Calls made (8 ∷ [])) (7 ∷ 1 ∷ 2 ∷ 3 ∷ 4 ∷ 5 ∷ 6 ∷ []) ≡ sample_of made 1 2 3 4 5 6 7 (8 ∷ []))
     × (step_of (at Stage.Calls made []) (take 118 (drop 216 sample)) ≡ answered_of 7 (sample_of made 3 5 0 0 0 0 7 []) (at Stage.Calls made []))
-    × (step_of (at Stage.Calls made []) (take 101 (drop 216 sample)) ≡ ends 14 (at Stage.Calls made []))
+    × (step_of (at Stage.Calls made []) (take 101 (drop 216 sample)) ≡ ends Refusal.Text (at Stage.Calls made []))
     × (step_of (at Stage.Ended made []) (take 118 (drop 216 sample)) ≡ awaits Stage.Ended Event.Nothing (at Stage.Ended made []))
 
 calls : Calls
@@ -193,8 +196,8 @@ calls = (refl, refl, refl, refl)
 abbrev Ends : Type 0
 Ends =
     (finish_of (at Stage.Calls made []) [] ≡ awaits Stage.Ended Event.Nothing (at Stage.Calls made []))
-    × (finish_of (at Stage.Calls made []) (48 ∷ []) ≡ ends 14 (at Stage.Calls made []))
-    × (finish_of (at Stage.History made []) [] ≡ ends 14 (at Stage.History made []))
+    × (finish_of (at Stage.Calls made []) (48 ∷ []) ≡ ends Refusal.Text (at Stage.Calls made []))
+    × (finish_of (at Stage.History made []) [] ≡ ends Refusal.Text (at Stage.History made []))
     × (finish_of (at Stage.Ended made []) (48 ∷ []) ≡ awaits Stage.Ended Event.Nothing (at Stage.Ended made []))
 
 text-ends : Ends
@@ -239,7 +242,7 @@ Texts =
     (written_of [] ≡ ended answer_names ++ answer_line 0 0 14 0)
     × (written_of (83 ∷ []) ≡ ended answer_names ++ answer_line 0 0 14 0)
     × (written_of (10 ∷ []) ≡ ended answer_names ++ (answer_line 0 0 14 0 ++ []))
-    × (step_of start_of (83 ∷ take 34 (drop 1 sample)) ≡ ends 14 start_of)
+    × (step_of start_of (83 ∷ take 34 (drop 1 sample)) ≡ ends Refusal.Text start_of)
     × (step_of start_of (take 35 sample) ≡ awaits Stage.Settings Event.Names start_of)
 
 texts : Texts

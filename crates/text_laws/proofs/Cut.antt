@@ -1,11 +1,13 @@
 -- A text cut at its newlines. Assumes nothing.
 use Prim.Native.Nat.{ℕ}
 use mathlib.Core.Path.{◌≡◌, refl, sym, ap, ◌∙◌}
-use mathlib.Core.Bool.{Bool, true, false, not, ◌&&◌, cond, false≢true}
+use mathlib.Core.Bool.{Bool, true, false, not, ◌&&◌, cond}
 use mathlib.Core.List.{List, [], ◌∷◌, ◌++◌, append-nil}
 use lib.Dec.{eqb}
 use lib.Seq.{append_snoc}
 use borrow.Author.Tests.{eqb-true}
+use Rattle.arith.proofs.Tests.{both}
+use Rattle.std.proofs.lemmas.Bool.{not-true}
 use Rattle.sampler_state.specs.declared.Sampler.{Sampler}
 use Rattle.text_laws.specs.declared.Stage.{Stage}
 use Rattle.text_laws.specs.Steps.{Reading, step_of, finish_of}
@@ -18,11 +20,7 @@ plain (b ∷ s) = not (eqb b 10) && plain s
 
 plain-first : (b : ℕ) (s : List ℕ) → plain (b ∷ s) ≡ true → (eqb b 10 ≡ false) × (plain s ≡ true)
 unfolding plain
-plain-first b s = go (eqb b 10)
-  where
-    go : (x : Bool) → (not x && plain s) ≡ true → (x ≡ false) × (plain s ≡ true)
-    go false h = (refl, h)
-    go true h = absurd (false≢true h)
+plain-first b s h = let p = both (not (eqb b 10)) (plain s) h in (not-true (eqb b 10) p.0, p.1)
 
 pub plain-append : (s t : List ℕ) → plain s ≡ true → plain t ≡ true → plain (s ++ t) ≡ true
 unfolding plain

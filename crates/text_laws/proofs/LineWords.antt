@@ -2,13 +2,14 @@
 use Rattle.std.specs.Prelude.{Option, Some, None}
 use Prim.Native.Nat.{ℕ, zero, suc, ◌+◌, ◌*◌, ◌-◌, ◌≤◌, ◌<◌}
 use mathlib.Core.Path.{◌≡◌, refl, sym, ap, ap₂, subst, ◌∙◌}
-use mathlib.Core.Bool.{Bool, true, false, ◌&&◌, false≢true, and_assoc, and-true}
+use mathlib.Core.Bool.{Bool, true, false, ◌&&◌, false≢true, and_assoc, and-true, and-false}
 use mathlib.Core.List.{List, [], ◌∷◌, ◌++◌}
 use native.Mathlib.Omega.{arith}
 use borrow.Author.Tests.{eq-eqb, ne_eqb, eqb-true, eqb-false}
 use lib.Dec.{eqb, ltb}
 use lib.ListN.{length, get_or, take, drop, length-append}
 use lib.Seq.{split_at, take_at, take_all, drop-append-add, get_or-append-add, get_or_at, length-take-le}
+use Rattle.std.proofs.Math.Facts.{eqb_yes, yes_eqb}
 use Rattle.arith.specs.Lists.{every, grown, list_of}
 use Rattle.arith.proofs.Lists.{every-not, every-same, list_same}
 use Rattle.word_text.specs.Digits.{value_of, all_digits, digits_of, parse_of}
@@ -17,9 +18,9 @@ use Rattle.word_text.proofs.RoundTrip.{reads, prints}
 use Rattle.propose_lines.specs.Lines.{word_at, is_word, word_of, spaced_of, is_words, words_in}
 use Rattle.propose_lines.specs.Names.{call_names}
 use Rattle.text_laws.specs.Texts.{line_of, Sized, Words}
-use Rattle.propose_lines.proofs.Words.{words-length}
+use Rattle.propose_lines.proofs.Words.{words_length}
 use Rattle.text_laws.proofs.Cut.{plain, plain-append}
-use Rattle.arith.proofs.Tests.{both}
+use Rattle.arith.proofs.Tests.{both, iff}
 
 -- ---- tests and lists from the front
 
@@ -34,13 +35,7 @@ list-front f zero = refl
 list-front f (suc n) = ap (λ (l : List ℕ). l ++ (f (suc n) ∷ [])) (list-front f n)
 
 eqb_same : (a b c d : ℕ) → (a ≡ b → c ≡ d) → (c ≡ d → a ≡ b) → eqb a b ≡ eqb c d
-eqb_same a b c d f g = go (eqb a b) (eqb c d) refl refl
-  where
-    go : (x y : Bool) → eqb a b ≡ x → eqb c d ≡ y → x ≡ y
-    go true true p q = refl
-    go false false p q = refl
-    go true false p q = absurd (eqb-false c d q (f (eqb-true a b p)))
-    go false true p q = absurd (eqb-false a b p (g (eqb-true c d q)))
+eqb_same a b c d f g = iff (eqb a b) (eqb c d) (λ t. yes_eqb (f (eqb_yes t))) (λ t. yes_eqb (g (eqb_yes t)))
 
 -- ---- the first word of a line
 
@@ -82,12 +77,7 @@ module _ (a rest : List ℕ) (l : length a ≡ 16) where
       rw (n, s, w) (regroup (eqb (length rest + 1) (17 * suc k)) (spaced_of (suc k) rest) (is_word (parse_of a)) (every (suc k) (λ i. is_word (word_at rest i))))
     where
       regroup : (n s f w : Bool) → (n && s && (f && w)) ≡ (f && (n && s && w))
-      regroup true true true w = refl
-      regroup true true false w = refl
-      regroup true false true w = refl
-      regroup true false false w = refl
-      regroup false s true w = refl
-      regroup false s false w = refl
+      regroup n s f w = grind arith
 
   pub words-front : (k : ℕ) → words_in (suc (suc k)) (a ++ (32 ∷ rest)) ≡ word_of (parse_of a) ∷ words_in (suc k) rest
   unfolding words_in
@@ -137,24 +127,18 @@ unfolding line_of
 line-cons w [] h = absurd (omega arith)
 line-cons w (v ∷ ws) h = refl
 
--- what the test of a line says
-line-length : (k : ℕ) (line : List ℕ) → is_words k line ≡ true → length line + 1 ≡ 17 * k
+-- what the test of a line says of its length and its spaces
+laid-out : (k : ℕ) (line : List ℕ) → is_words k line ≡ true → (length line + 1 ≡ 17 * k) × (spaced_of k line ≡ true)
 unfolding is_words
-line-length k line h = eqb-true (length line + 1) (17 * k) (both (eqb (length line + 1) (17 * k)) (spaced_of k line) (both _ _ h).0).0
-
-line-spaced : (k : ℕ) (line : List ℕ) → is_words k line ≡ true → spaced_of k line ≡ true
-unfolding is_words
-line-spaced k line h = (both (eqb (length line + 1) (17 * k)) (spaced_of k line) (both _ _ h).0).1
-
-line-of-words : (k : ℕ) (line : List ℕ) → is_words k line ≡ true → every k (λ i. is_word (word_at line i)) ≡ true
-unfolding is_words
-line-of-words k line h = (both (eqb (length line + 1) (17 * k) && spaced_of k line) (every k (λ i. is_word (word_at line i))) h).1
+laid-out k line h =
+    let b = both (eqb (length line + 1) (17 * k)) (spaced_of k line) (both _ _ h).0 in
+    (eqb-true (length line + 1) (17 * k) b.0, b.1)
 
 first-space : (k : ℕ) (line : List ℕ) → is_words (suc (suc k)) line ≡ true → get_or line 16 0 ≡ 32
 first-space k line h =
     let t : ℕ → Bool = λ i. eqb (get_or line (17 * i + 16) 0) 32 in
     let one : suc (suc k) - 1 ≡ suc k = omega arith in
-    eqb-true (get_or line 16 0) 32 (both (t 0) (every k (λ i. t (suc i))) (sym (every_front k t) ∙ ap (λ (n : ℕ). every n t) (sym one) ∙ line-spaced (suc (suc k)) line h)).0
+    eqb-true (get_or line 16 0) 32 (both (t 0) (every k (λ i. t (suc i))) (sym (every_front k t) ∙ ap (λ (n : ℕ). every n t) (sym one) ∙ (laid-out (suc (suc k)) line h).1)).0
 
 read_back : (k : ℕ) (line : List ℕ) → is_words (suc k) line ≡ true → (line ≡ line_of (words_in (suc k) line)) × Sized (words_in (suc k) line)
 unfolding Sized
@@ -164,7 +148,7 @@ read_back zero line h =
     let n : length line ≡ 16 = ap length d.0 ∙ length_last 16 (word_of (parse_of line)) in
     rw (one-word-in line n) (d.0 ∙ unfold line_of in refl, (d.1, tt))
 read_back (suc k) line h =
-    let n = line-length (suc (suc k)) line h in
+    let n = (laid-out (suc (suc k)) line h).0 in
     let a = take 16 line in
     let rest = drop 17 line in
     let l : length a ≡ 16 = length-take-le 16 line (omega arith) in
@@ -174,13 +158,13 @@ read_back (suc k) line h =
     let w = word_of (parse_of a) in
     let d = prints a w (is_word_lem (parse_of a) t.0) in
     let ws : words_in (suc (suc k)) line ≡ w ∷ words_in (suc k) rest = ap (words_in (suc (suc k))) q ∙ words-front a rest l k in
-    let m = words-length (suc k) rest in
+    let m = words_length (suc k) rest in
     rw ws
     (q ∙ ap₂ (λ (x y : List ℕ). x ++ (32 ∷ y)) d.0 i.0 ∙ sym (line-cons w (words_in (suc k) rest) (omega arith)), (d.1, i.1))
 
 pub words-read-back : (k : ℕ) (line : List ℕ) → 1 ≤ k → is_words k line ≡ true → Words k (words_in k line) × (line ≡ line_of (words_in k line))
 words-read-back zero line m h = absurd (omega arith)
-words-read-back (suc k) line m h = let b = read_back k line h in (record { some = m; count = words-length (suc k) line; sized = b.1 }, b.0)
+words-read-back (suc k) line m h = let b = read_back k line h in (record { some = m; count = words_length (suc k) line; sized = b.1 }, b.0)
 
 -- ---- names are no words
 
@@ -189,20 +173,13 @@ unfolding word_at all_digits
 first-name = refl
 
 pub names-no-words : (k : ℕ) → 1 ≤ k → is_words k call_names ≡ false
-names-no-words k m = go (is_words k call_names) refl
-  where
-    go : (x : Bool) → is_words k call_names ≡ x → x ≡ false
-    go false e = refl
-    go true e = absurd (false≢true (sym (every-not k (λ i. is_word (word_at call_names i)) 0 (omega arith) first-name) ∙ line-of-words k call_names e))
+unfolding is_words
+names-no-words k m = rw (every-not k (λ i. is_word (word_at call_names i)) 0 (omega arith) first-name) (and-false (eqb (length call_names + 1) (17 * k) && spaced_of k call_names))
 
 -- ---- no newline in them
 
 digit-plain : (b : ℕ) → ltb (value_of b) 16 ≡ true → eqb b 10 ≡ false
-digit-plain b h = go (eqb b 10) refl
-  where
-    go : (x : Bool) → eqb b 10 ≡ x → x ≡ false
-    go false e = refl
-    go true e = absurd (let q = eqb-true b 10 e in false≢true (subst (λ (c : ℕ). ltb (value_of c) 16 ≡ true) q h))
+digit-plain b h = ne_eqb b 10 (λ e. false≢true (subst (λ (c : ℕ). ltb (value_of c) 16 ≡ true) e h))
 
 digits-plain : (s : List ℕ) → all_digits s ≡ true → plain s ≡ true
 unfolding all_digits plain

@@ -8,6 +8,7 @@ use native.Mathlib.Omega.{arith}
 use borrow.Author.Tests.{le-leb, lt-leb, ne_eqb}
 use lib.Dec.{leb}
 use lib.ListN.{length, length-append}
+use Rattle.refusal.specs.declared.Refusal.{Refusal}
 use Rattle.text_laws.specs.declared.Stage.{Stage}
 use Rattle.text_laws.specs.Laws.{LongLines}
 use Rattle.propose_lines.specs.Lines.{is_words}
@@ -34,13 +35,13 @@ module _ (r : Reading) (line : List ℕ) (long : 17 * 163 ≤ length line) where
   few (no p) = rw (lt-leb (slots_of r.sampler) 20 (omega arith))
 
   -- no row is so long
-  row : Dec (slots_of r.sampler ≤ 20) → (b : Bool) → leb (length r.history + row_words (slots_of r.sampler)) 8192 ≡ b → row_line r line ≡ ends 14 r
+  row : Dec (slots_of r.sampler ≤ 20) → (b : Bool) → leb (length r.history + row_words (slots_of r.sampler)) 8192 ≡ b → row_line r line ≡ ends Refusal.Text r
   unfolding row_line
   row (yes p) true e = rw (le-leb (slots_of r.sampler) 20 p, e, not-words (row_words (slots_of r.sampler)) line (λ q. omega arith))
   row (yes p) false e = rw (le-leb (slots_of r.sampler) 20 p, e)
   row (no p) b e = rw (lt-leb (slots_of r.sampler) 20 (omega arith))
 
-  at_stage : (stage : Stage) → (stage ≡ Stage.Ended → ⊥) → line_at stage r line ≡ ends 14 r
+  at_stage : (stage : Stage) → (stage ≡ Stage.Ended → ⊥) → line_at stage r line ≡ ends Refusal.Text r
   unfolding settings_line history_line call_line
   at_stage Stage.SettingsNames h = rw (differ line settings_names (λ e. let n : length line ≡ 35 = e in omega arith))
   at_stage Stage.Settings h = rw (not-words 5 line (λ e. omega arith))
@@ -49,6 +50,6 @@ module _ (r : Reading) (line : List ℕ) (long : 17 * 163 ≤ length line) where
   at_stage Stage.Calls h = rw (not-words 7 line (λ e. omega arith))
   at_stage Stage.Ended h = absurd (h refl)
 
-pub long-lines : LongLines
+pub long_lines : LongLines
 unfolding step_of
-long-lines r line h long = at_stage r line (omega arith) r.stage h
+long_lines r line h long = at_stage r line (omega arith) r.stage h

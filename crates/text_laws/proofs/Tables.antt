@@ -6,7 +6,8 @@ use mathlib.Core.List.{List, [], ◌∷◌, ◌++◌, append_assoc, append-nil}
 use native.Mathlib.Omega.{arith}
 use borrow.Author.Tests.{le-leb}
 use lib.ListN.{length, get_or, length-append}
-use Rattle.distribution.specs.Value.{kind_of, word_of}
+use Rattle.refusal.specs.declared.Refusal.{Refusal}
+use Rattle.refusal.specs.Numbers.{cause_number}
 use Rattle.settings.specs.Settings.{settings_ok}
 use Rattle.sampler_state.specs.declared.Sampler.{Sampler}
 use Rattle.sampler_laws.specs.Runs.{answers_of, end_of}
@@ -15,7 +16,7 @@ use Rattle.text_laws.specs.declared.Event.{Event}
 use Rattle.text_laws.specs.declared.Stage.{Stage}
 use Rattle.propose_lines.specs.Lines.{is_words, answer_line}
 use Rattle.propose_lines.specs.Names.{settings_names, row_names, slot_names, slots_names, history_names, call_names, same_bytes}
-use Rattle.text_laws.specs.Steps.{Reading, Stepped, ends, settings_of, made_of, sampled_of, answered_of, slots_of, row_words, settings_line, row_line, history_line, call_line, step_of}
+use Rattle.text_laws.specs.Steps.{Reading, Stepped, ends, settings_of, made_of, sampled_of, told_line, answered_of, slots_of, row_words, settings_line, row_line, history_line, call_line, step_of}
 use Rattle.text_laws.specs.Texts.{read_of, ended, line_of, lines_of, Words, Table, joined, calls_of, answer_lines}
 use Rattle.propose_lines.proofs.Bytes.{same_self, same-equal}
 use Rattle.text_laws.proofs.Cut.{plain, plain-append, read-ended, silent}
@@ -25,12 +26,12 @@ abbrev pub at : Stage → Sampler → List ℕ → Reading
 at stage s h = record { stage = stage; sampler = s; history = h }
 
 -- a line that ends the run: its number is the last that is written
-pub last_line : (r : Reading) (line rest : List ℕ) (n : ℕ) → plain line ≡ true → step_of r line ≡ ends n r → read_of r [] (ended line ++ rest) ≡ answer_line 0 0 n 0
+pub last_line : (r : Reading) (line rest : List ℕ) (n : Refusal) → plain line ≡ true → step_of r line ≡ ends n r → read_of r [] (ended line ++ rest) ≡ answer_line 0 0 (cause_number n) 0
 last_line r line rest n p e =
     read-ended r line rest p
     ∙ ap (λ (t : Stepped). t.written ++ read_of t.reading [] rest) e
-    ∙ ap (λ (l : List ℕ). answer_line 0 0 n 0 ++ l) (silent r.sampler r.history [] rest)
-    ∙ append-nil (answer_line 0 0 n 0)
+    ∙ ap (λ (l : List ℕ). answer_line 0 0 (cause_number n) 0 ++ l) (silent r.sampler r.history [] rest)
+    ∙ append-nil (answer_line 0 0 (cause_number n) 0)
 
 -- a line after which another is awaited
 pub next-line : (r next : Reading) (event : Event) (line rest : List ℕ) → plain line ≡ true → step_of r line ≡ record { reading = next; event = event; written = [] } → read_of r [] (ended line ++ rest) ≡ read_of next [] rest
@@ -38,42 +39,23 @@ next-line r next event line rest p e = read-ended r line rest p ∙ ap (λ (t : 
 
 -- ---- names lines
 
-row_plain : plain row_names ≡ true
-unfolding plain
-row_plain = refl
-
-slot-plain : plain slot_names ≡ true
-unfolding plain
-slot-plain = refl
-
 slots-plain : (n : ℕ) → plain (slots_names n) ≡ true
 unfolding slots_names plain
 slots-plain zero = refl
-slots-plain (suc n) = plain-append slot_names (slots_names n) slot-plain (slots-plain n)
-
-pub history-plain : (n : ℕ) → plain (history_names n) ≡ true
-history-plain n = plain-append row_names (slots_names n) row_plain (slots-plain n)
-
-pub settings-plain : plain settings_names ≡ true
-unfolding plain
-settings-plain = refl
-
-pub calls-plain : plain call_names ≡ true
-unfolding plain
-calls-plain = refl
+slots-plain (suc n) = plain-append slot_names (slots_names n) refl (slots-plain n)
 
 pub read-settings-names : (s : Sampler) (h rest : List ℕ) → read_of (at Stage.SettingsNames s h) [] (ended settings_names ++ rest) ≡ read_of (at Stage.Settings s h) [] rest
-unfolding step_of
-read-settings-names s h rest = next-line _ _ Event.Names settings_names rest settings-plain (rw (same_self settings_names))
+unfolding step_of plain
+read-settings-names s h rest = next-line _ _ Event.Names settings_names rest refl (rw (same_self settings_names))
 
 pub read-history-names : (s : Sampler) (h rest : List ℕ) → slots_of s ≤ 20 → read_of (at Stage.HistoryNames s h) [] (ended (history_names (slots_of s)) ++ rest) ≡ read_of (at Stage.History s h) [] rest
-unfolding step_of
+unfolding step_of plain
 read-history-names s h rest few =
-    next-line _ _ Event.Names (history_names (slots_of s)) rest (history-plain (slots_of s)) (rw (le-leb (slots_of s) 20 few, same_self (history_names (slots_of s))))
+    next-line _ _ Event.Names (history_names (slots_of s)) rest (plain-append row_names (slots_names (slots_of s)) refl (slots-plain (slots_of s))) (rw (le-leb (slots_of s) 20 few, same_self (history_names (slots_of s))))
 
 pub read-call-names : (s : Sampler) (h rest : List ℕ) → read_of (at Stage.History s h) [] (ended call_names ++ rest) ≡ read_of (at Stage.Calls s h) [] rest
-unfolding step_of history_line
-read-call-names s h rest = next-line _ _ Event.CallsBegin call_names rest calls-plain (rw (same_self call_names))
+unfolding step_of history_line plain
+read-call-names s h rest = next-line _ _ Event.CallsBegin call_names rest refl (rw (same_self call_names))
 
 -- ---- the settings
 
@@ -88,7 +70,7 @@ module _ (s : Sampler) (h ws rest : List ℕ) (w : Words 5 ws) where
 
   pub read-refused : settings_ok (settings_of ws) ≡ false → read_of (at Stage.Settings s h) [] (ended (line_of ws) ++ rest) ≡ answer_line 0 0 1 0
   unfolding make_of
-  read-refused out = last_line _ (line_of ws) rest 1 (line_plain ws) (settings-step ∙ rw out)
+  read-refused out = last_line _ (line_of ws) rest Refusal.Settings (line_plain ws) (settings-step ∙ rw out)
 
 -- ---- the history
 
@@ -132,5 +114,5 @@ read-calls s h (ws ∷ calls) rest t =
     ap (read_of r []) (append_assoc (ended (line_of ws)) (lines_of calls) rest)
     ∙ read-ended r (line_of ws) (lines_of calls ++ rest) (line_plain ws)
     ∙ ap (λ (x : Stepped). x.written ++ read_of x.reading [] (lines_of calls ++ rest)) (call_step s h ws t.0)
-    ∙ ap (λ (l : List ℕ). answer_line (get_or ws 0 0) (kind_of a.value) (word_of a.value) a.drawn ++ l) (read-calls a.sampler h calls rest t.1)
-    ∙ sym (append_assoc (answer_line (get_or ws 0 0) (kind_of a.value) (word_of a.value) a.drawn) _ _)
+    ∙ ap (λ (l : List ℕ). told_line (get_or ws 0 0) a.answer ++ l) (read-calls a.sampler h calls rest t.1)
+    ∙ sym (append_assoc (told_line (get_or ws 0 0) a.answer) _ _)

@@ -1,5 +1,6 @@
 -- What is promised of every text. Statements only, proved in proofs/.
 use Rattle.std.specs.Prelude.{ℕ, ◌<◌, ◌≡◌, false, List, [], ◌++◌, length}
+use Rattle.refusal.specs.declared.Refusal.{Refusal}
 use Rattle.settings.specs.Settings.{settings_ok}
 use Rattle.text_laws.specs.declared.Stage.{Stage}
 use Rattle.propose_lines.specs.Lines.{answer_line}
@@ -28,4 +29,4 @@ pub record TextAnswers : Type 0 where
 
 -- "a line longer than any table has" is 14 before its end is read
 abbrev pub LongLines : Type 0
-LongLines = (r : Reading) (line : List ℕ) → (r.stage ≡ Stage.Ended → ⊥) → 2770 < length line → step_of r line ≡ ends 14 r
+LongLines = (r : Reading) (line : List ℕ) → (r.stage ≡ Stage.Ended → ⊥) → 2770 < length line → step_of r line ≡ ends Refusal.Text r

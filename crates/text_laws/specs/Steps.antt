@@ -1,14 +1,17 @@
 -- The three tables, line by line. "Lines are judged in order as read." Definitions only.
-use Rattle.std.specs.Prelude.{ℕ, ◌+◌, ◌*◌, Bool, ◌&&◌, cond, List, [], ◌++◌, eqb, leb, length, get_or, take}
+use Rattle.std.specs.Prelude.{ℕ, ◌+◌, ◌*◌, Bool, ◌&&◌, cond, List, [], ◌++◌, eqb, leb, length, get_or, take, Option, Some, None, Result, Ok, Err}
 use Rattle.std.specs.Float.{binary64}
 use Rattle.std.specs.Float.Ieee.{of_bits}
+use Rattle.refusal.specs.declared.Refusal.{Refusal}
+use Rattle.refusal.specs.Numbers.{cause_number}
+use Rattle.distribution.specs.declared.ParamValue.{ParamValue}
 use Rattle.distribution.specs.Value.{kind_of, word_of}
 use Rattle.settings.specs.declared.Settings.{Settings}
-use Rattle.sampler_state.specs.declared.Made.{Made}
+use Rattle.sampler_laws.specs.declared.Answer.{Answer}
 use Rattle.sampler_laws.specs.declared.Sampled.{Sampled}
 use Rattle.sampler_state.specs.declared.Sampler.{Sampler}
 use Rattle.sampler_laws.specs.Calls.{sample_of}
-use Rattle.sampler_state.specs.State.{make_of, no_sampler}
+use Rattle.sampler_state.specs.State.{fresh_of, make_of}
 use Rattle.text_laws.specs.declared.Event.{Event}
 use Rattle.text_laws.specs.declared.Reader.{Reader}
 use Rattle.text_laws.specs.declared.Stage.{Stage}
@@ -34,8 +37,13 @@ pub record Stepped : Type 0 where
 abbrev pub reading_of : Reader → List ℕ → Reading
 reading_of r h = record { stage = r.stage; sampler = r.sampler; history = take r.count h }
 
+-- the line to write, or nothing
+abbrev pub written_in : Option (List ℕ) → List ℕ
+written_in (Some line) = line
+written_in None = []
+
 abbrev pub stepped_of : Step → List ℕ → Stepped
-stepped_of t h = record { reading = reading_of t.reader h; event = t.event; written = take t.len t.bytes }
+stepped_of t h = record { reading = reading_of t.reader h; event = t.event; written = written_in t.line }
 
 -- ---- ways to go on
 
@@ -44,12 +52,12 @@ abbrev pub awaits : Stage → Event → Reading → Stepped
 awaits s e r = record { reading = record { stage = s; sampler = r.sampler; history = r.history }; event = e; written = [] }
 
 -- "Numbers 1 and 14 print trial 0 and end the run."
-abbrev pub ends : ℕ → Reading → Stepped
-ends n r = record { reading = record { stage = Stage.Ended; sampler = r.sampler; history = r.history }; event = Event.Refused n; written = answer_line 0 0 n 0 }
+abbrev pub ends : Refusal → Reading → Stepped
+ends e r = record { reading = record { stage = Stage.Ended; sampler = r.sampler; history = r.history }; event = Event.Refused e; written = answer_line 0 0 (cause_number e) 0 }
 
 -- a names line
 abbrev pub named : Bool → Stage → Reading → Stepped
-named ok s r = cond ok (awaits s Event.Names r) (ends 14 r)
+named ok s r = cond ok (awaits s Event.Names r) (ends Refusal.Text r)
 
 -- ---- the lines
 
@@ -57,12 +65,13 @@ abbrev pub settings_of : List ℕ → Settings
 settings_of ws =
     record { n_startup_trials = get_or ws 0 0; n_candidates = get_or ws 1 0; noise_variance = of_bits binary64 (get_or ws 2 0); seed = get_or ws 3 0; slots = get_or ws 4 0 }
 
-abbrev pub made_of : Made → Reading → Stepped
-made_of m r = cond (eqb m.number 0) (record { reading = record { stage = Stage.HistoryNames; sampler = m.sampler; history = r.history }; event = Event.Settings; written = [] }) (ends m.number r)
+abbrev pub made_of : Result Sampler Refusal → Reading → Stepped
+made_of (Ok s) r = record { reading = record { stage = Stage.HistoryNames; sampler = s; history = r.history }; event = Event.Settings; written = [] }
+made_of (Err e) r = ends e r
 
 -- "Settings (one line)": malformed text is 14, a setting out of range 1
 unfoldable pub settings_line : Reading → List ℕ → Stepped
-settings_line r line = cond (is_words 5 line) (made_of (make_of (settings_of (words_in 5 line))) r) (ends 14 r)
+settings_line r line = cond (is_words 5 line) (made_of (make_of (settings_of (words_in 5 line))) r) (ends Refusal.Text r)
 
 -- a sampler that is made has 1 to 20 slots
 abbrev pub slots_of : Sampler → ℕ
@@ -80,7 +89,7 @@ unfoldable pub row_line : Reading → List ℕ → Stepped
 row_line r line =
     cond (leb (slots_of r.sampler) 20 && leb (length r.history + row_words (slots_of r.sampler)) 8192 && is_words (row_words (slots_of r.sampler)) line)
     (record { reading = record { stage = Stage.History; sampler = r.sampler; history = r.history ++ words_in (row_words (slots_of r.sampler)) line }; event = Event.Row; written = [] })
-    (ends 14 r)
+    (ends Refusal.Text r)
 
 -- "After the history, a line of seven names starts the calls."
 unfoldable pub history_line : Reading → List ℕ → Stepped
@@ -90,13 +99,22 @@ history_line r line = cond (same_bytes line call_names) (awaits Stage.Calls Even
 abbrev pub sampled_of : Reading → List ℕ → Sampled
 sampled_of r ws = sample_of r.sampler (get_or ws 1 0) (get_or ws 2 0) (get_or ws 3 0) (get_or ws 4 0) (get_or ws 5 0) (get_or ws 6 0) (get_or ws 0 0) r.history
 
+-- "trial, value kind, value, words drawn": a close has no value, and prints 0 and 0
+abbrev pub value_line : ℕ → Option ParamValue → ℕ → List ℕ
+value_line trial (Some v) drawn = answer_line trial (kind_of v) (word_of v) drawn
+value_line trial None drawn = answer_line trial 0 0 drawn
+
 -- "A refused call prints its trial, 0, the number, 0."
+abbrev pub told_line : ℕ → Result Answer Refusal → List ℕ
+told_line trial (Ok a) = value_line trial a.value a.drawn
+told_line trial (Err e) = answer_line trial 0 (cause_number e) 0
+
 abbrev pub answered_of : ℕ → Sampled → Reading → Stepped
 answered_of trial a r =
-    record { reading = record { stage = Stage.Calls; sampler = a.sampler; history = r.history }; event = Event.Call; written = answer_line trial (kind_of a.value) (word_of a.value) a.drawn }
+    record { reading = record { stage = Stage.Calls; sampler = a.sampler; history = r.history }; event = Event.Call; written = told_line trial a.answer }
 
 unfoldable pub call_line : Reading → List ℕ → Stepped
-call_line r line = cond (is_words 7 line) (answered_of (get_or (words_in 7 line) 0 0) (sampled_of r (words_in 7 line)) r) (ends 14 r)
+call_line r line = cond (is_words 7 line) (answered_of (get_or (words_in 7 line) 0 0) (sampled_of r (words_in 7 line)) r) (ends Refusal.Text r)
 
 abbrev pub line_at : Stage → Reading → List ℕ → Stepped
 line_at Stage.SettingsNames r line = named (same_bytes line settings_names) Stage.Settings r
@@ -108,6 +126,10 @@ line_at Stage.Ended r line = awaits Stage.Ended Event.Nothing r
 
 -- ---- what a reader does
 
+-- no settings are read yet: a sampler of zeros
+abbrev pub no_sampler : Sampler
+no_sampler = fresh_of (record { n_startup_trials = 0; n_candidates = 0; noise_variance = of_bits binary64 0; seed = 0; slots = 0 })
+
 unfoldable pub start_of : Reading
 start_of = record { stage = Stage.SettingsNames; sampler = no_sampler; history = [] }
 
@@ -118,11 +140,11 @@ step_of r line = line_at r.stage r line
 
 -- the input's end, with what stands after its last newline: 14 unless the calls have begun and every line is whole
 abbrev pub finish_at : Stage → Reading → List ℕ → Stepped
-finish_at Stage.SettingsNames r rest = ends 14 r
-finish_at Stage.Settings r rest = ends 14 r
-finish_at Stage.HistoryNames r rest = ends 14 r
-finish_at Stage.History r rest = ends 14 r
-finish_at Stage.Calls r rest = cond (eqb (length rest) 0) (awaits Stage.Ended Event.Nothing r) (ends 14 r)
+finish_at Stage.SettingsNames r rest = ends Refusal.Text r
+finish_at Stage.Settings r rest = ends Refusal.Text r
+finish_at Stage.HistoryNames r rest = ends Refusal.Text r
+finish_at Stage.History r rest = ends Refusal.Text r
+finish_at Stage.Calls r rest = cond (eqb (length rest) 0) (awaits Stage.Ended Event.Nothing r) (ends Refusal.Text r)
 finish_at Stage.Ended r rest = awaits Stage.Ended Event.Nothing r
 
 unfoldable pub finish_of : Reading → List ℕ → Stepped

@@ -1,14 +1,13 @@
 -- Whole texts: how one is read, which are well-formed, and what is answered. Definitions only.
-use Rattle.std.specs.Prelude.{ℕ, ◌^◌, ◌≤◌, ◌<◌, ◌≡◌, true, cond, List, [], ◌∷◌, ◌++◌, eqb, length, get_or}
+use Rattle.std.specs.Prelude.{ℕ, ◌^◌, ◌≤◌, ◌<◌, ◌≡◌, true, cond, List, [], ◌∷◌, ◌++◌, eqb, length, get_or, Result}
 use Rattle.word_text.specs.Digits.{digits_of}
-use Rattle.distribution.specs.declared.ParamValue.{ParamValue}
-use Rattle.distribution.specs.Value.{kind_of, word_of}
+use Rattle.refusal.specs.declared.Refusal.{Refusal}
 use Rattle.settings.specs.Settings.{settings_ok}
+use Rattle.sampler_laws.specs.declared.Answer.{Answer}
 use Rattle.sampler_laws.specs.Runs.{Call, asks, answers_of}
 use Rattle.sampler_state.specs.State.{fresh_of}
-use Rattle.propose_lines.specs.Lines.{answer_line}
 use Rattle.propose_lines.specs.Names.{settings_names, history_names, call_names, answer_names}
-use Rattle.text_laws.specs.Steps.{Reading, settings_of, row_words, start_of, step_of, finish_of}
+use Rattle.text_laws.specs.Steps.{Reading, settings_of, row_words, told_line, start_of, step_of, finish_of}
 
 -- ---- how a text is read: byte by byte, a line at each newline, whatever pieces it comes in
 
@@ -92,10 +91,10 @@ calls_of h (ws ∷ rest) =
     asks (record { kind = get_or ws 1 0; low = get_or ws 2 0; high = get_or ws 3 0; log = get_or ws 4 0; stepped = get_or ws 5 0; step = get_or ws 6 0 }) (get_or ws 0 0) h ∷ calls_of h rest
 
 -- a line for each call and its answer
-unfoldable pub answer_lines : List (List ℕ) → List (ℕ × ParamValue × ℕ) → List ℕ
+unfoldable pub answer_lines : List (List ℕ) → List (Result Answer Refusal) → List ℕ
 answer_lines [] answers = []
 answer_lines (ws ∷ rest) [] = []
-answer_lines (ws ∷ rest) (a ∷ answers) = answer_line (get_or ws 0 0) (kind_of a.1) (word_of a.1) a.2 ++ answer_lines rest answers
+answer_lines (ws ∷ rest) (a ∷ answers) = told_line (get_or ws 0 0) a ++ answer_lines rest answers
 
 -- the answers of the run of its calls
 unfoldable pub answers_to : Document → List ℕ

@@ -1,12 +1,15 @@
 // What is promised of every text.
 ghost use Rattle.text_laws.specs.Laws.{TextAnswers, LongLines};
 
-// A well-formed text is answered by the run of its calls; a malformed one by the calls before it, then 14; settings out of range by 1.
+// A well-formed text is answered by the run of its calls; a malformed one by the calls before it, then 14; settings out
+// of range by 1.
+#[tactic(auto, using(crate::proofs::TextLaws::text_answers))]
 pub fn text_answers()
     ensures { TextAnswers }
 {}
 
 // A line longer than any table has is 14, whatever follows.
+#[tactic(auto, using(crate::proofs::LongLines::long_lines))]
 pub fn long_lines()
     ensures { LongLines }
 {}

@@ -1,12 +1,14 @@
-// What a text of `propose` is and what is answered: the definitions, the types that they name, and the laws of every text.
+// What a text of `propose` is and what is answered: the definitions, the types that they name, and the laws of every
+// text.
 #![tactic(auto)]
 
 pub mod laws;
 
+use refusal::Refusal;
 use sampler_state::Sampler;
 
 // The line that is awaited.
-#[derive(Clone, Copy)]
+#[derive(Clone, Copy, Debug, PartialEq, Eq)]
 pub enum Stage {
     SettingsNames,
     Settings,
@@ -21,26 +23,27 @@ pub enum Stage {
 pub struct Reader {
     pub stage: Stage,
     pub sampler: Sampler,
+    // Kept: fixed memory (document 01), so that the array of 8,192 words is lent from line to line.
     pub count: usize,
 }
 
-// What a line was: names, the settings, a row, the names that begin the calls, a call, a refusal that ends the run, or nothing more of a text.
-#[derive(Clone, Copy)]
+// What a line was: names, the settings, a row, the names that begin the calls, a call, a refusal that ends the run, or
+// nothing more of a text.
+#[derive(Clone, Copy, Debug, PartialEq, Eq)]
 pub enum Event {
     Names,
     Settings,
     Row,
     CallsBegin,
     Call,
-    Refused(u64),
+    Refused(Refusal),
     Nothing,
 }
 
-// After a line: the reader, what the line was, and the bytes to write for it, the first `len`.
+// After a line: the reader, what the line was, and the line to write for it.
 #[derive(Drop)]
 pub struct Step {
     pub reader: Reader,
     pub event: Event,
-    pub len: usize,
-    pub bytes: [u8; 68],
+    pub line: Option<[u8; 68]>,
 }

@@ -110,9 +110,9 @@ last_of s h = ap₂ last_digits (sym (zero-add (length s))) (omega arith) ∙ la
 
 -- a text with a byte that is no digit, and a text of digits with one more
 module _ (s : List ℕ) (i : ℕ) (h : i < length s) where
-  pub not-all : 16 ≤ value_of (get_or s i 0) → all_digits s ≡ false
+  pub not_all : 16 ≤ value_of (get_or s i 0) → all_digits s ≡ false
   unfolding all_digits
-  not-all v =
+  not_all v =
       ap all_digits (split_at s i 0 h) ∙ all_append (take i s) (get_or s i 0 ∷ drop (suc i) s) ∙
       rw (le-ltb (value_of (get_or s i 0)) 16 v) (and-false (all_digits (take i s)))
 
@@ -120,11 +120,14 @@ module _ (s : List ℕ) (i : ℕ) (h : i < length s) where
   unfolding all_digits
   all_more a v = rw (add-one, take-suc s i 0 h, all_append, a, lt-ltb (value_of (get_or s i 0)) 16 v)
 
-  pub of-more : of_digits (take (i + 1) s) ≡ of_digits (take i s) * 16 + value_of (get_or s i 0)
-  of-more = rw (add-one, take-suc s i 0 h) (of-append (take i s) (get_or s i 0))
+  pub of_more : of_digits (take (i + 1) s) ≡ of_digits (take i s) * 16 + value_of (get_or s i 0)
+  of_more = rw (add-one, take-suc s i 0 h) (of-append (take i s) (get_or s i 0))
 
   pub of_room : i < 16 → all_digits (take i s) ≡ true → of_digits (take i s) < 16 ^ 15
   of_room k a = lt_of_lt_of_le (rw (length-take-le i s (omega arith)) at (of-below (take i s) a)) (pow-le-pow_right (omega arith) {i = i} {j = 15} (omega arith))
+
+-- what a loop over the digits of a text uses
+pub ruleset parsing = (not_all, all_more, of_more, of_room)
 
 -- one digit more, stored in front of those that are there
 pub last_more : (k n : ℕ) (out : List ℕ) (j a : ℕ) (all : List ℕ) → k ≡ j + 1 → a ≡ j → k ≤ length out → last_digits k n ++ drop k out ≡ all → last_digits j (n / 16) ++ drop j (set out a (digit_of (n % 16))) ≡ all

@@ -6,6 +6,7 @@ ghost use Rattle.word_text.specs.Digits.{digit_of, value_of, digits_of, parse_of
 ghost use Rattle.word_text.specs.RoundTrip.{RoundTrip};
 
 // The word that s is: exactly sixteen lower-case hexadecimal digits, the highest first. Anything else is malformed.
+#[tactic(auto, using(crate::proofs::Digits::parsing), unfolding(crate::specs::Digits::all_digits, crate::specs::Digits::of_digits))]
 pub fn parse(s: &[u8]) -> Option<u64>
     ensures { result ≡ parse_of s.now }
 {
@@ -23,6 +24,7 @@ pub fn parse(s: &[u8]) -> Option<u64>
 }
 
 // The sixteen digits of w.
+#[tactic(auto, using(crate::proofs::Digits::last_more), unfolding(crate::specs::Digits::last_digits))]
 pub fn print(w: u64) -> [u8; 16]
     ensures { result ≡ digits_of w }
 {
@@ -59,6 +61,7 @@ fn digit(d: u64) -> u8
 }
 
 // Every word printed is read back, and no other text is read as a word.
+#[tactic(auto, using(crate::proofs::RoundTrip::reads, crate::proofs::RoundTrip::prints))]
 pub fn round_trip()
     ensures { RoundTrip }
 {}

@@ -2,9 +2,9 @@
 use mathlib.Core.Path.{refl}
 use lib.ListN.{replicate}
 use Rattle.propose_lines.specs.Lines.{answer_line}
-use Rattle.propose_lines.proofs.AnswerLine.{four-words}
+use Rattle.propose_lines.proofs.AnswerLine.{four_words}
 use Rattle.propose_lines.proofs.answers.answer_line.Goals as goal
 
 pub returns : goal.returns
 unfolding answer_line
-returns c = rw (c.put-4.ensures, c.put-3.ensures, c.put-2.ensures, c.put.ensures) (four-words (replicate 68 0) _ _ _ _ refl)
+returns c = rw (c.put_printed-4.ensures, c.put_printed-3.ensures, c.put_printed-2.ensures, c.put_printed.ensures) (four_words (replicate 68 0) _ _ _ _ refl)

@@ -1,5 +1,5 @@
 use Rattle.std.proofs.Common.{◌≤◌, length}
-use Rattle.propose_io.proofs.input.Text.lines.Given as goal
+use Rattle.pieces.proofs.input.whole_lines.Given as goal
 
 abbrev pub invariant-loop-end : goal.invariant-loop-end
 invariant-loop-end g l = length l.rest ≤ length l.bytes
