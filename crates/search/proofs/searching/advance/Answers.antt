@@ -15,9 +15,10 @@ pub loop-preserved : goal.loop-preserved
 loop-preserved c =
     let l = c.loop in
     let m = model_of c.args.m in
-    let e : l.counter * 8 + 8 ≡ (l.counter + 1) * 8 = omega arith in
-    (rw (c.some_candidates-s.ensures, l.invariant.0) (advance-add m (l.counter * 8) 8 c.args.start ∙ ap (λ k. advance_of m k c.args.start) e),
-    rw c.some_candidates-s.ensures (advance-nonzero m 8 l.s l.invariant.1))
+    let e : l.counter * 8 + 8 ≡ (l.counter + 1) * 8 = omega arith in (
+      rw (c.some_candidates-s.ensures, l.invariant.0) (advance-add m (l.counter * 8) 8 c.args.start ∙ ap (λ k. advance_of m k c.args.start) e),
+      rw c.some_candidates-s.ensures (advance-nonzero m 8 l.s l.invariant.1),
+    )
 
 pub returns-in_default : goal.returns-in_default
 returns-in_default c =
