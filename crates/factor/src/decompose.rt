@@ -10,7 +10,8 @@ use crate::place;
 use refusal::Refusal;
 
 // a less the products of the rows i and j before column j.
-// Kept: this loop, next's and unknown's read other places each, in one line; closures for the places are longer.
+// Kept: beside the loops of next and unknown, which read other places; one for all takes two closures, with clauses that
+// each k has its place in the array and what is read there, for a loop of one line.
 #[tactic(auto, unfolding(crate::specs::Triangle::less_of))]
 fn rest(l: &[f64; 5050], a: f64, i: usize, j: usize) -> f64
     requires { (i < 100) × (j ≤ i) }

@@ -39,7 +39,8 @@ impl<'a> Table<'a> {
     }
 
     // The sum of the squares of its distances from m.
-    // Kept: a loop of its own; one function of a closure for the term has a contract longer than both loops.
+    // Kept: beside column_sum's loop; one for both takes a closure, a clause that it may be called on each cell, one that
+    // says its term there, and a proof of both in each caller, for a loop of two lines.
     #[tactic(auto, unfolding(arith::specs::Sums::sum_over))]
     fn column_squares(&self, j: usize, m: f64) -> f64
         requires { j < self.now.d }

@@ -52,7 +52,7 @@ impl Recent<'_> {
             return true;
         }
         let id = slots::word(slot, 0);
-        // Kept: two matches; each closure of a chain would want a contract of its own.
+        // Kept: two matches; as and_then and is_some_and they were tried, and the two closures' goals stayed open.
         match self.row_with(id) {
             Some(row) => match rows::slot_with(row, id) {
                 Some(first) => slots::reads_equal(slots::read(first), slots::read(slot)),

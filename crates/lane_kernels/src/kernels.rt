@@ -62,6 +62,7 @@ fn decays(r_sq: &[f64; 8]) -> [f64; 8]
 }
 
 // The kernel of eight points and each of n rows.
+// Kept: n beside x, whose length does not say the rows where there is no column.
 fn kernel_rows(
     points: &[[f64; 8]; 20],
     x: &[f64],
@@ -80,6 +81,7 @@ fn kernel_rows(
 }
 
 // The same: zeros over 100 rows or 20 columns, and where the rows are not all there.
+// Kept: n beside x, as in kernel_rows.
 #[tactic(auto, unfolding(crate::specs::Kernels::kernel_lanes_of))]
 pub fn kernel_vectors(
     points: &[[f64; 8]; 20],

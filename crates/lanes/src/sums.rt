@@ -29,7 +29,8 @@ pub fn dot(a: &[[f64; 8]; 100], b: &[[f64; 8]; 100], n: usize) -> [f64; 8]
 }
 
 // The dot products of the first n rows of each lane of a and of one list b: zeros over 100 rows, or where b is shorter.
-// Kept: dot's loop over a list; one loop for both takes a closure for b's rows, whose clauses are longer than the loop.
+// Kept: beside dot's loop; one for both takes a closure for b's rows, a clause that it may be called below n and one
+// that says each row, for a loop of one line.
 #[tactic(auto, unfolding(crate::specs::Sums::dot_each_of))]
 pub fn dot_each(a: &[[f64; 8]; 100], b: &[f64], n: usize) -> [f64; 8]
     ensures { result ≡ dot_each_of a.now b.now n }

@@ -7,10 +7,9 @@ use gp_model::Model;
 use search::Candidate;
 
 // The data of a fit: its rows of d columns, one after the other, and their values.
-// Kept: d beside the rows, since a fit of no rows has columns too.
 #[derive(Clone, Copy)]
 struct FitData<'a> {
-    // Kept: a width; the rows stand in one slice, and know how many they are.
+    // Kept: beside the rows, since a fit of no rows has columns too.
     d: usize,
     noise_var: f64,
     rows: &'a [u64],

@@ -4,7 +4,6 @@ ghost use Rattle.std.specs.Prelude.{◌≡◌, ◌≤◌, length};
 use crate::reply::{Failure, Reply, Results};
 
 // The bytes that are not yet written.
-// Kept: a buffer with its count, since memory is fixed.
 #[derive(Drop)]
 pub struct Output {
     buffer: [u8; 65536],
