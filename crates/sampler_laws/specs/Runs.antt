@@ -1,7 +1,6 @@
 -- Runs of calls, and two runs whose histories agree. Definitions only.
 use Rattle.std.specs.Prelude.{ℕ, List, [], ◌∷◌, Result, Ok, Err}
 use Rattle.refusal.specs.declared.Refusal.{Refusal}
-use Rattle.refusal.specs.Numbers.{number_of}
 use Rattle.history_view.specs.Agree.{Agree}
 use Rattle.sampler_laws.specs.declared.Answer.{Answer}
 use Rattle.sampler_laws.specs.declared.Sampled.{Sampled}
@@ -26,10 +25,7 @@ abbrev pub call_of : Sampler → Call → Sampled
 call_of s (asks d trial h) = sample_of s d.kind d.low d.high d.log d.stepped d.step trial h
 call_of s (closes trial) = close_of s trial
 
--- the number of a call, 0 where it is accepted, and the words it draws, 0 where it is refused
-abbrev pub call_number : Sampled → ℕ
-call_number r = number_of r.answer
-
+-- the words that a call draws, 0 where it is refused
 abbrev pub words_in : Result Answer Refusal → ℕ
 words_in (Ok a) = a.drawn
 words_in (Err cause) = 0
