@@ -42,7 +42,7 @@ filled s n d trial h past none =
     by-sample s d trial h (λ r. (a : Answer) → r.answer ≡ Ok a → Filled s trial h r.sampler) (λ c _ a e. absurd (cc)) (λ r _ a _ _ _ _ _. absurd (true≢false (sym past ∙ a)))
     (λ r _ _ l v e _ _. by-served s.settings s.dimensions.list s.dimensions.count s.word (held_by s.places trial) r trial (served_history s h)
     (λ v. Filled s trial h (written_of (activated s) (spot_of s trial) v).sampler) (λ q f _. absurd (taken q f)) (λ q f _ _ _. absurd (taken q f))
-    (λ _ c z. record { draw = c; is = z; placed = put-new s.places n (spot_of s trial) l (Some (stored_of trial c).place) trial none (eqb_refl trial) }) v e)
+    (λ _ c z. record { draw = c; is = z; placed = (put-new s.places n (spot_of s trial) l (Some (stored_of trial c).place) trial none (eqb_refl trial)).1 }) v e)
   where
     -- no place is found for it
     taken : (q : Place) → held_by s.places trial ≡ Some q → ⊥

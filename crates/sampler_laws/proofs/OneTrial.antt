@@ -12,7 +12,7 @@ use borrow.Author.Tests.{ltb-true, ltb-false, lt-ltb, le-ltb}
 use Rattle.refusal.specs.declared.Refusal.{Refusal}
 use Rattle.arith.specs.Lists.{every}
 use Rattle.arith.specs.Outcome.{made}
-use Rattle.arith.proofs.Lists.{each-every}
+use Rattle.arith.proofs.Lists.{each-every, every-each}
 use Rattle.arith.proofs.Tests.{by-test}
 use Rattle.rng_util.specs.declared.Draw.{Draw}
 use Rattle.rng_util.specs.Draws.{drawn_by}
@@ -41,7 +41,7 @@ use Rattle.sampler_state.specs.State.{held_by, stored_ok, stored_at, progress_ok
 use Rattle.sampler_state.proofs.Held.{held-own}
 use Rattle.sampler_laws.specs.declared.Serving.{Serving}
 use Rattle.sampler_laws.specs.Calls.{next_of, past_of, stored_of, new_trial_of, serving_of, serving_for}
-use Rattle.sampler_laws.proofs.Nothing.{values-made}
+use Rattle.sampler_laws.proofs.Nothing.{values-made, stored_ok_lem}
 use Rattle.sampler_laws.proofs.Parts.{Ready}
 
 -- it sees a history only through its view
@@ -63,6 +63,11 @@ new_words settings dims k h =
 abbrev pub words_for : Settings → List DimensionInfo → ℕ → Option Place → List ℕ → ℕ
 words_for settings dims k (Some p) h = cond (ltb p.next_dim k) 0 1
 words_for settings dims k None h = new_words settings dims k h
+
+-- the distribution that is answered for: the dimension's, or past the last the one asked
+abbrev pub answered_for : List DimensionInfo → ℕ → Option Place → Distribution → Distribution
+answered_for dims k (Some p) d = cond (ltb p.next_dim k) (dimension_at dims p.next_dim).distribution d
+answered_for dims k None d = (dimension_at dims 0).distribution
 
 module _ (settings : Settings) (dims : List DimensionInfo) (k word : ℕ) (p : Option Place) (d : Distribution) (trial : ℕ) (h : List ℕ) where
   abbrev served : Result Serving Refusal
@@ -111,19 +116,23 @@ module _ (settings : Settings) (dims : List DimensionInfo) (k word : ℕ) (p : O
       by-served (λ v. v.draw.drawn ≡ words_for settings dims k p h) (λ q e l. rw (e, lt-ltb q.next_dim k l)) (λ q e l r y. rw (e, le-ltb q.next_dim k l) (sym (ap drawn_by y) ∙ random-word word d z f))
       (λ e c y. rw e (compute-words settings dims k word h z.1 held c y))
 
-  -- with the parts of a well-formed sampler it is accepted, and the place after it is in range
+  -- with the parts of a well-formed sampler it is accepted, and its value and the place after it are in range
   pub record Ranged (x : Result Serving Refusal) : Type 0 where
     pub serving : Serving
     pub is : x ≡ Ok serving
     pub place : T (progress_ok dims k serving.place)
+    pub value : T (stored_ok (answered_for dims k p d) serving.draw.value)
 
   pub serving-ranged : Ready settings dims k word → 1 ≤ k → check_of settings.slots h ≡ Ok tt → ((q : Place) → p ≡ Some q → T (progress_ok dims k q)) → Held d → T (shape_of d) → Ranged served
   serving-ranged g some r ok held shape =
-      by-serving Ranged (λ q e l. record { serving = next_of word q; is = refl; place = further q (ok q e) l })
-      (λ q e _. let x = random-ranged word d g.nonzero held shape in record { serving = record { draw = x.draw; place = q }; is = rw x.is; place = ok q e })
-      (λ _. let m = values-made settings dims k word g h r in
-      record { serving = stored_of trial m.0; is = rw m.1; place = progress (stored_of trial m.0).place (omega arith) some (each-every k _ m.2) })
+      by-serving Ranged (λ q e l. record { serving = next_of word q; is = refl; place = further q (ok q e) l; value = rw (e, lt-ltb q.next_dim k l) (inside q (ok q e) l) })
+      (λ q e l. let x = random-ranged word d g.nonzero held shape in record { serving = record { draw = x.draw; place = q }; is = rw x.is; place = ok q e; value = rw (e, le-ltb q.next_dim k l) (stored_ok_lem d x.draw.value x.range) })
+      (λ e. let m = values-made settings dims k word g h r in
+      record { serving = stored_of trial m.0; is = rw m.1; place = progress (stored_of trial m.0).place (omega arith) some (each-every k _ m.2); value = rw e (m.2 0 some) })
     where
+      inside : (q : Place) → T (progress_ok dims k q) → q.next_dim < k → T (stored_ok (dimension_at dims q.next_dim).distribution (stored_at q q.next_dim))
+      inside q o l = every-each k (λ j. stored_ok (dimension_at dims j).distribution (stored_at q j)) (search parts) q.next_dim l
+
       progress : (q : Place) → 1 ≤ q.next_dim → q.next_dim ≤ k → T (every k (λ j. stored_ok (dimension_at dims j).distribution (stored_at q j))) → T (progress_ok dims k q)
       progress q l m v =
           let a = le→leb 1 q.next_dim l in

@@ -1,4 +1,4 @@
--- A place looked up and a place written, in every list of 32, well-formed or not: whose it is, that no trial gets two, and how many are taken. Assumes nothing.
+-- A place written and a place looked up, in every list of 32, well-formed or not: what is written for a trial is found for it, nothing else is found for another, and how many places are taken. Assumes nothing.
 use Prim.Native.Nat.{ℕ, ◌+◌, ◌≤◌, ◌<◌}
 use native.Mathlib.Omega.{arith}
 use mathlib.Core.Path.{◌≡◌, refl, sym, ap, ◌∙◌, subst}
@@ -6,7 +6,7 @@ use mathlib.Core.Bool.{Bool, true, false, not, cond}
 use mathlib.Core.List.{List}
 use mathlib.Core.Logic.{◌⊎◌, inl, inr}
 use lib.Dec.{T, T_not, not_T, eqb, eqb→eq, eqb_refl, ltb}
-use lib.ListN.{length, set, get_or-eq_default}
+use lib.ListN.{length, set, length-set, get_or-eq_default}
 use lib.Seq.{get_or-set_same, get_or-set_other}
 use lib.Ieee.Bits.{is_true, is_false}
 use lib.Ieee.Fits.{eq→eqb}
@@ -119,6 +119,10 @@ module _ (ps : List (Option Place)) (n : length ps ≡ 32) (i : ℕ) (l : i < 32
     | inr x ↦ ap (holds u) (there j x)
   ])
 
+  put_other : (u : ℕ) → holds u (place_at ps i) ≡ false → holds u p ≡ false → held_by (set ps i p) u ≡ held_by ps u
+  put_other u a b = ap (place_at (set ps i p)) (put-found u a b) ∙ there (trial_place ps u) (λ e.
+      T_not (holds u (place_at ps i)) (untaken a) (subst (λ (k : ℕ). T (holds u (place_at ps k))) e (found-holds ps u (subst (λ (k : ℕ). k < 32) (sym e) l))))
+
   -- one that is a trial's, and no earlier place is
   put-own : (t : ℕ) → ((j : ℕ) → j < i → holds t (place_at ps j) ≡ false) → T (holds t p) → trial_place (set ps i p) t ≡ i
   unfolding trial_place
@@ -128,9 +132,12 @@ module _ (ps : List (Option Place)) (n : length ps ≡ 32) (i : ℕ) (l : i < 32
       subst (λ (q : Option Place). T (not (holds t q))) (sym (there j (λ e. omega arith))) (untaken (none j m)))))
       (ap (holds t) here ∙ is_true (holds t p) h)
 
-  -- so it is found for a trial that had none, wherever it is written
-  pub put-new : (t : ℕ) → trial_place ps t ≡ 32 → T (holds t p) → held_by (set ps i p) t ≡ p
-  put-new t none h = ap (place_at (set ps i p)) (put-own t (λ j m. unfold trial_place in place-before 32 (λ k. holds t (place_at ps k)) j (omega arith)) h) ∙ here
+  -- so a trial that had none finds its place, wherever it is written
+  pub put-new : (t : ℕ) → trial_place ps t ≡ 32 → T (holds t p) → (trial_place (set ps i p) t ≡ i) × (held_by (set ps i p) t ≡ p)
+  put-new t none h = (at, ap (place_at (set ps i p)) at ∙ here)
+    where
+      at : trial_place (set ps i p) t ≡ i
+      at = put-own t (λ j m. unfold trial_place in place-before 32 (λ k. holds t (place_at ps k)) j (omega arith)) h
 
   -- how many are taken
   put_count : taken_count (set ps i p) + cond (taken_at ps i) 1 0 ≡ taken_count ps + cond (taken p) 1 0
@@ -144,6 +151,12 @@ module _ (ps : List (Option Place)) (n : length ps ≡ 32) (i : ℕ) (l : i < 32
 module _ (ps : List (Option Place)) (n : length ps ≡ 32) (t : ℕ) (p : Option Place) (l : spot_for ps t < 32) where
   spot-found : T (holds t p) → trial_place (set ps (spot_for ps t) p) t ≡ spot_for ps t
   spot-found h = put-own ps n (spot_for ps t) l p t (λ j m. before-spot ps n t j l m) h
+
+  pub spot-own : T (holds t p) → held_by (set ps (spot_for ps t) p) t ≡ p
+  spot-own h = ap (place_at (set ps (spot_for ps t) p)) (spot-found h) ∙ here ps n (spot_for ps t) l p
+
+  pub spot-other : (u : ℕ) → (u ≡ t → ⊥) → holds u p ≡ false → held_by (set ps (spot_for ps t) p) u ≡ held_by ps u
+  spot-other u x h = put_other ps n (spot_for ps t) l p u (at-spot ps n t u x l) h
 
   -- one more is taken where the trial had none
   pub spot-count : T (holds t p) → taken_count (set ps (spot_for ps t) p) ≡ taken_count ps + cond (eqb (trial_place ps t) 32) 1 0
@@ -163,6 +176,14 @@ module _ (ps : List (Option Place)) (n : length ps ≡ 32) (t : ℕ) (p : Option
 module _ (ps : List (Option Place)) (n : length ps ≡ 32) (t : ℕ) (l : trial_place ps t < 32) where
   abbrev emptied : List (Option Place)
   emptied = set ps (trial_place ps t) empty_place
+
+  -- no trial finds it
+  pub emptied-none : (u : ℕ) → trial_place emptied u ≡ trial_place ps t → ⊥
+  emptied-none u e =
+      subst (λ (q : Option Place). T (holds u q)) (ap (place_at emptied) e ∙ here ps n (trial_place ps t) l empty_place) (found-holds emptied u (subst (λ (k : ℕ). k < 32) (sym e) l))
+
+  pub emptied-other : (u : ℕ) → (u ≡ t → ⊥) → held_by emptied u ≡ held_by ps u
+  emptied-other u x = put_other ps n (trial_place ps t) l empty_place u (holds-one t u (held_by ps t) x (found-holds ps t l)) refl
 
   pub emptied-count : taken_count emptied + 1 ≡ taken_count ps
   emptied-count =
@@ -262,3 +283,25 @@ module _ (ps : List (Option Place)) where
     pub emptied-once : (t : ℕ) → trial_place ps t < 32 → Once (set ps (trial_place ps t) empty_place)
     emptied-once t l =
         once-put (trial_place ps t) l empty_place (λ q z. cc) (λ u b x. (holds-one t u (held_by ps t) (λ e. x (ap (trial_place ps) e)) (found-holds ps t l), refl))
+
+    -- and the trial then has none
+    pub emptied-own : (t : ℕ) → trial_place ps t < 32 → trial_place (set ps (trial_place ps t) empty_place) t ≡ 32
+    emptied-own t l = elim (own-or-none after (length-set ps i empty_place ∙ n) t) [ inl w ↦ absurd (again w) | inr w ↦ w.none ]
+      where
+        i : ℕ
+        i = trial_place ps t
+
+        after : List (Option Place)
+        after = set ps i empty_place
+
+        -- its first place after would be one of its places before
+        again : Own after t → ⊥
+        again w =
+            let j = trial_place after t in
+            let x : j ≡ i → ⊥ = emptied-none ps n t l t in
+            let h = subst (λ (q : Option Place). T (holds t q)) (there ps n i l empty_place j x) w.held in
+            same j w.below (place_at ps j) refl h x
+          where
+            same : (j : ℕ) → j < 32 → (q : Option Place) → place_at ps j ≡ q → T (holds t q) → (j ≡ i → ⊥) → ⊥
+            same j m (Some q) e h x = x (sym (o j q m e) ∙ ap (trial_place ps) (eqb→eq q.trial t h))
+            same j m None e h x = h
