@@ -8,7 +8,7 @@ use distribution::Distribution;
 use encoding::InternalBounds;
 
 // Whether two floats have the same bits.
-// Kept: NaNs count as one float, whose pattern is `word_of_float`'s; `to_bits` promises none for a NaN.
+// Kept: NaNs count as one float, whose pattern is `word_of_float`'s; `to_bits` may not be asked of a NaN.
 fn same_bits(a: f64, b: f64) -> bool
     ensures { result ≡ same_bits a b }
 {

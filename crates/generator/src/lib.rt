@@ -67,7 +67,7 @@ pub fn optimize_acquisition(
     n_dims: usize,
     n_candidates: u64,
 ) -> Result<Candidate, Refusal>
-    ensures { (result ≡ optimize_acquisition_of m n_dims n_candidates g.old.word) × (g.new.word ≡ word_after_search result g.old.word) }
+    ensures { (result ≡ optimize_acquisition_of m n_dims n_candidates g.old.word) × (g.new.word ≡ word_after_search g.old.word result) }
 {
     let found = search::optimize_acquisition(m, n_dims, n_candidates, g.word)?;
     g.word = found.next;

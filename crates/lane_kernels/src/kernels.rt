@@ -62,7 +62,7 @@ fn decays(r_sq: &[f64; 8]) -> [f64; 8]
 }
 
 // The kernel of eight points and each of n rows.
-// Kept: n beside x, whose length does not say the rows where there is no column.
+// Kept: n beside x, which may be longer than the rows, and says nothing of them where there is no column.
 fn kernel_rows(
     points: &[[f64; 8]; 20],
     x: &[f64],

@@ -6,3 +6,4 @@ pub mod Numbers
 pub mod Ranges
 pub mod Walk
 pub mod WordCount
+pub mod Accepted

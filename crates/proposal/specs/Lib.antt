@@ -1,3 +1,4 @@
+pub mod Accepts
 pub mod Points
 pub mod Proposal
 pub mod Values

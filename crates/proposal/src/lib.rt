@@ -5,4 +5,4 @@ pub mod points;
 pub mod proposing;
 pub mod walking;
 
-pub use proposing::compute_candidate;
+pub use proposing::{candidate_accepted, compute_candidate};

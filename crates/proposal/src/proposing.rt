@@ -2,6 +2,7 @@
 ghost use Rattle.std.specs.Prelude.{◌≡◌, not, ◌&&◌, eqb, leb, ◌≤◌, ◌<◌};
 ghost use Rattle.history.proofs.Counts.{Counts};
 ghost use Rattle.settings.specs.Settings.{settings_ok};
+ghost use Rattle.proposal.specs.Accepts.{CandidateAccepted};
 ghost use Rattle.proposal.specs.Proposal.{from_point, candidate_of, compute_candidate_of};
 
 use crate::{points, walking};
@@ -77,3 +78,9 @@ pub fn compute_candidate(
     let view = history_view::view_of(s.slots as usize, s.n_startup_trials, dims, h)?;
     candidate(s, dims, word, view)
 }
+
+// What passes the tests of a new trial has values: a theorem, as a contract.
+#[tactic(auto, using(crate::proofs::Accepted::candidate_accepted))]
+pub fn candidate_accepted()
+    ensures { CandidateAccepted }
+{}

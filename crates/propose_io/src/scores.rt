@@ -49,7 +49,7 @@ fn write_points(
     rt: HostRuntime,
     trial: u64,
     m: &Model,
-    // Kept: the search and its draws take the number of columns.
+    // Kept: beside the model, which does not say that its columns are at most 20.
     d: usize,
     candidates: u64,
     word: u64,

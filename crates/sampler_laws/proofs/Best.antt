@@ -1,5 +1,5 @@
 -- Every new trial with a model stores the decoding of the best point drawn for it. Assumes nothing.
-use Prim.Native.Nat.{ℕ}
+use Prim.Native.Nat.{ℕ, ◌<◌}
 use mathlib.Core.Path.{◌≡◌, refl, sym, ◌∙◌}
 use mathlib.Core.Bool.{true, true≢false}
 use mathlib.Core.List.{List}
@@ -34,7 +34,8 @@ use Rattle.sampler_laws.proofs.Ways.{by-sample}
 record Filled (s : Sampler) (trial : ℕ) (h : List ℕ) (after : Sampler) : Type 0 where
   draw : Draw (List ParamValue)
   is : compute_candidate_of s.settings s.dimensions.list s.dimensions.count s.word (served_history s h) ≡ Ok draw
-  placed : held_by after.places trial ≡ Some (stored_of trial draw).place
+  placed : trial_place after.places trial < 32
+  held : held_by after.places trial ≡ Some (stored_of trial draw).place
 
 filled : (s : Sampler) → length s.places ≡ 32 → (d : Asked) (trial : ℕ) (h : List ℕ) → past_discovery s trial ≡ true → trial_place s.places trial ≡ 32 → (a : Answer) → (call_of s (asks d trial h)).answer ≡ Ok a
     → Filled s trial h (call_of s (asks d trial h)).sampler
@@ -42,7 +43,9 @@ filled s n d trial h past none =
     by-sample s d trial h (λ r. (a : Answer) → r.answer ≡ Ok a → Filled s trial h r.sampler) (λ c _ a e. absurd (cc)) (λ r _ a _ _ _ _ _. absurd (true≢false (sym past ∙ a)))
     (λ r _ _ l v e _ _. by-served s.settings s.dimensions.list s.dimensions.count s.word (held_by s.places trial) r trial (served_history s h)
     (λ v. Filled s trial h (written_of (activated s) (spot_of s trial) v).sampler) (λ q f _. absurd (taken q f)) (λ q f _ _ _. absurd (taken q f))
-    (λ _ c z. record { draw = c; is = z; placed = (put-new s.places n (spot_of s trial) l (Some (stored_of trial c).place) trial none (eqb_refl trial)).1 }) v e)
+    (λ _ c z.
+    let p = put-new s.places n (spot_of s trial) l (Some (stored_of trial c).place) trial none (eqb_refl trial) in
+    record { draw = c; is = z; placed = rw p.0 l; held = p.1 }) v e)
   where
     -- no place is found for it
     taken : (q : Place) → held_by s.places trial ≡ Some q → ⊥
@@ -51,7 +54,7 @@ filled s n d trial h past none =
 -- ---- what its place holds
 
 stores : (s after : Sampler) (trial : ℕ) (h : List ℕ) (point : List Float) (f : Filled s trial h after) → Decodes s.dimensions.list s.dimensions.count f.draw.value point → Stores s after trial point
-stores s after trial h point f e = record { place = (stored_of trial f.draw).place; placed = f.placed; decoded = e }
+stores s after trial h point f e = record { place = (stored_of trial f.draw).place; placed = f.placed; held = f.held; decoded = e }
 
 pub best : (s : Sampler) (c : Call) → length s.places ≡ 32 → BestStored s c
 unfolding new_trial has_model point_drawn

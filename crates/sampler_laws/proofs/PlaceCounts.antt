@@ -33,7 +33,7 @@ use Rattle.sampler_laws.specs.declared.Sampled.{Sampled}
 use Rattle.sampler_laws.specs.Calls.{active_of, served_of, sample_of}
 use Rattle.sampler_laws.specs.Laws.{PlacesCounted}
 use Rattle.sampler_laws.specs.NewTrials.{past_discovery, new_trial, served_history}
-use Rattle.sampler_laws.specs.Runs.{Asked, asks, closes, call_of}
+use Rattle.sampler_laws.specs.Runs.{Asked, asks, closes, call_of, call_number}
 use Rattle.sampler_laws.proofs.Others.{Other, fine, domain, made-other, then-other, random-other, walked-other}
 use Rattle.sampler_laws.proofs.OneTrial.{by-serving, serves-own}
 use Rattle.sampler_laws.proofs.Parts.{taken-active}
@@ -86,9 +86,9 @@ candidate-other s dims k w h =
     (λ v. by-test Other (v.reached && leb 1 v.training.d) _ _ (λ _. made-other _ _ (walked-other _ dims k _)) (λ _. walked-other None dims k w)))
     (λ _. domain _)
 
-only-full : (s : Sampler) (d : Asked) (trial : ℕ) (h : List ℕ) → (call_of s (asks d trial h)).answer ≡ Err NoPlace → (taken_count s.places ≡ 32) × (trial_place s.places trial ≡ 32)
+only-full : (s : Sampler) (d : Asked) (trial : ℕ) (h : List ℕ) → call_number (call_of s (asks d trial h)) ≡ 9 → (taken_count s.places ≡ 32) × (trial_place s.places trial ≡ 32)
 only-full s d trial h =
-    by-sample s d trial h (λ r. r.answer ≡ Err NoPlace → (taken_count s.places ≡ 32) × (trial_place s.places trial ≡ 32)) (λ c x e. nine x (ap number_of e)) (λ r _ _ _ x _ e. absurd (cc)) (λ r _ _ _ v _ e. absurd (cc))
+    by-sample s d trial h (λ r. call_number r ≡ 9 → (taken_count s.places ≡ 32) × (trial_place s.places trial ≡ 32)) (λ c x e. nine x e) (λ r _ _ _ x _ e. absurd (omega arith)) (λ r _ _ _ v _ e. absurd (omega arith))
   where
     nine : {c : Refusal} → Refusing s d trial h c → cause_number c ≡ 9 → (taken_count s.places ≡ 32) × (trial_place s.places trial ≡ 32)
     nine (malformed-sampler x) e = absurd (omega arith)
@@ -102,7 +102,7 @@ only-full s d trial h =
         (λ _ _ _. made-other _ _ (random-other s.word r)) (λ _. made-other _ _ (candidate-other s.settings s.dimensions.list s.dimensions.count s.word (served_history s h)))).no (ap number_of x ∙ e))
 
 ninth : (s : Sampler) (d : Asked) (r : Distribution) (trial : ℕ) (h : List ℕ)
-    → T (sampler_ok s) → read_asked d ≡ Some r → check_of s.settings.slots h ≡ Ok tt → taken_count s.places ≡ 32 → trial_place s.places trial ≡ 32 → (call_of s (asks d trial h)).answer ≡ Err NoPlace
+    → T (sampler_ok s) → read_asked d ≡ Some r → check_of s.settings.slots h ≡ Ok tt → taken_count s.places ≡ 32 → trial_place s.places trial ≡ 32 → call_number (call_of s (asks d trial h)) ≡ 9
 unfolding sample_of served_of active_of
 ninth s d r trial h ok e n c p =
     rw (is_true (sampler_ok s) ok, e, n, taken-active s ok 0 (omega arith) (passed (all-taken s.places c 0 (omega arith))), full-no-spot s.places trial c p)

@@ -35,7 +35,7 @@ use Rattle.sampler_laws.specs.declared.Serving.{Serving}
 use Rattle.sampler_laws.specs.Calls.{answered_of, with_place, activated, with_dimension, drawn_of, written_of, spot_of, freed_of}
 use Rattle.sampler_laws.specs.Laws.{WellFormed}
 use Rattle.sampler_laws.specs.NewTrials.{past_discovery, served_history}
-use Rattle.sampler_laws.specs.Runs.{Asked, asks, closes, Call, call_of, Along}
+use Rattle.sampler_laws.specs.Runs.{Asked, asks, closes, Call, call_of, call_number, Along}
 use Rattle.distribution_words.proofs.RoundTrip.{read_held}
 use Rattle.sampler_laws.proofs.Changes.{free-ok, taken-ok, ok-taken, dimension-formed, with-word, with-place, ended, with-dimension}
 use Rattle.sampler_laws.proofs.Nothing.{served-accepted, refusal-small}
@@ -55,10 +55,10 @@ put-well s g a i v l ok z once =
 -- an answer with a well_formed sampler that is not 11
 pub record Good (r : Sampled) : Type 0 where
   pub well : Well r.sampler
-  pub answered : r.answer ≡ Err OutOfDomain → ⊥
+  pub answered : call_number r ≡ 11 → ⊥
 
 accepted : (s : Sampler) (a : Accepted) → Well a.sampler → Good (answered_of s (Ok a))
-accepted s a w = record { well = w; answered = λ n. cc }
+accepted s a w = record { well = w; answered = λ n. omega arith }
 
 module _ (s : Sampler) (g : Well s) where
   -- past discovery the sampler goes on as an active one
@@ -87,18 +87,18 @@ module _ (s : Sampler) (g : Well s) where
         serving-ranged s.settings s.dimensions.list s.dimensions.count s.word (held_by s.places trial) r trial (served_history s h) (ready s g) (leb→le 1 s.dimensions.count (goes_on trial past).ok.some)
         (served-accepted s h g.ok.settings p.history) (held-ok trial) f.0 f.1
 
-    not-11 : {c : Refusal} → Refusing s d trial h c → c ≡ OutOfDomain → ⊥
+    not-11 : {c : Refusal} → Refusing s d trial h c → cause_number c ≡ 11 → ⊥
     not-11 (malformed-sampler x) e = T_not (sampler_ok s) (untaken x) (parts-ok s g.ok)
-    not-11 malformed-asked e = let z = ap cause_number e in omega arith
-    not-11 (bad-history c x) e = let l = refusal-small s.settings h g.ok.settings in let n = ap number_of x in let z = ap cause_number e in omega arith
-    not-11 no-dimension e = let z = ap cause_number e in omega arith
+    not-11 malformed-asked e = omega arith
+    not-11 (bad-history c x) e = let l = refusal-small s.settings h g.ok.settings in let n = ap number_of x in omega arith
+    not-11 no-dimension e = omega arith
     not-11 (no-draw r p c x) e = let f = held-read r p in let z = sym (random-ranged s.word r (ready s g).nonzero f.0 f.1).is ∙ x in cc
-    not-11 (no_place l) e = let z = ap cause_number e in omega arith
+    not-11 (no_place l) e = omega arith
     not-11 (no-values r p past c x) e = let z = sym (served r p past).is ∙ x in cc
 
     sampled : Good (call_of s (asks d trial h))
     sampled =
-        by-sample s d trial h Good (λ c x. record { well = g; answered = λ e. not-11 x (let z : c ≡ OutOfDomain = cc in z) })
+        by-sample s d trial h Good (λ c x. record { well = g; answered = λ e. not-11 x e })
         (λ r p a n x e.
         let f = held-read r p in
         let w = with-dimension s g trial r (discovering s trial a) n (dimension-formed r f.0 f.1) in
@@ -114,7 +114,7 @@ module _ (s : Sampler) (g : Well s) where
 
   close : (trial : ℕ) → Good (call_of s (closes trial))
   close trial =
-      by-close s trial Good (λ e. absurd (T_not (sampler_ok s) (untaken e) (parts-ok s g.ok))) (record { well = g; answered = λ e. let z = ap number_of e in omega arith })
+      by-close s trial Good (λ e. absurd (T_not (sampler_ok s) (untaken e) (parts-ok s g.ok))) (record { well = g; answered = λ e. omega arith })
       (λ l. accepted s (freed_of s trial) (with-place s g _ empty_place l (free-ok s.active s.dimensions.list s.dimensions.count empty_place refl) (emptied-once s.places g.typed.places g.ok.once trial l)))
 
 good : (s : Sampler) (c : Call) → Well s → Good (call_of s c)
@@ -142,7 +142,7 @@ fresh s l o = record {
     empty : (i : ℕ) → i < 32 → place_at (fresh_of s).places i ≡ None
     empty i m = get_or-replicate 32 i empty_place empty_place m
 
-along : (s : Sampler) (cs : List Call) → Well s → Along (λ t c. (call_of t c).answer ≡ Err OutOfDomain → ⊥) s cs
+along : (s : Sampler) (cs : List Call) → Well s → Along (λ t c. call_number (call_of t c) ≡ 11 → ⊥) s cs
 unfolding Along
 along s [] g = tt
 along s (c ∷ cs) g = let h = good s c g in (h.answered, along (call_of s c).sampler cs h.well)

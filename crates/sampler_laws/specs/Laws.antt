@@ -3,7 +3,6 @@ use Rattle.std.specs.Prelude.{ℕ, ◌+◌, ◌*◌, ◌^◌, ◌<◌, ◌≡◌
 use Rattle.std.specs.Float.{binary64}
 use Rattle.std.specs.Float.Ieee.{fits}
 use Rattle.refusal.specs.declared.Refusal.{Refusal}
-use Rattle.refusal.specs.declared.Refusal.TheVariants.{NoPlace, OutOfDomain}
 use Rattle.refusal.specs.Numbers.{number_of}
 use Rattle.rng_util.specs.declared.Draw.{Draw}
 use Rattle.rng_util.specs.Generator.{moved_of}
@@ -23,7 +22,7 @@ use Rattle.sampler_state.specs.declared.Place.{Place}
 use Rattle.sampler_state.specs.declared.Sampler.{Sampler}
 use Rattle.sampler_laws.specs.declared.Answer.{Answer}
 use Rattle.sampler_laws.specs.NewTrials.{new_trial, served_history, fit_made, fit_answer, has_model, continuous, choices, BestStored}
-use Rattle.sampler_laws.specs.Runs.{Asked, asks, closes, Call, call_of, drawn_in, answers_of, end_of, Along, Alike}
+use Rattle.sampler_laws.specs.Runs.{Asked, asks, closes, Call, call_of, call_number, drawn_in, answers_of, end_of, Along, Alike}
 use Rattle.sampler_state.specs.State.{fresh_of, trial_place, held_by, taken_count, stored_ok, sampler_ok}
 
 -- ---- demand 3, one statement about the whole list
@@ -76,7 +75,7 @@ pub record WellFormed : Type 0 where
   -- after a call
   pub call : (s : Sampler) (c : Call) → Typed s → T (sampler_ok s) → Typed (call_of s c).sampler × T (sampler_ok (call_of s c).sampler)
   -- so no call of a run meets 11
-  pub run : (s : Settings) → s.seed < 2 ^ 64 → T (settings_ok s) → (cs : List Call) → Along (λ t c. (call_of t c).answer ≡ Err OutOfDomain → ⊥) (fresh_of s) cs
+  pub run : (s : Settings) → s.seed < 2 ^ 64 → T (settings_ok s) → (cs : List Call) → Along (λ t c. call_number (call_of t c) ≡ 11 → ⊥) (fresh_of s) cs
 
 -- inside a call with a history that is not refused
 pub record NothingRefused : Type 0 where
@@ -100,7 +99,7 @@ pub record PlacesCounted : Type 0 where
   pub closed : (s : Sampler) (trial : ℕ) → Typed s
       → taken_count (call_of s (closes trial)).sampler.places + cond (is_ok (call_of s (closes trial)).answer) 1 0 ≡ taken_count s.places
   -- 9 exactly when 32 are taken and the trial has none
-  pub full : (s : Sampler) (d : Asked) (trial : ℕ) (h : List ℕ) → (call_of s (asks d trial h)).answer ≡ Err NoPlace → (taken_count s.places ≡ 32) × (trial_place s.places trial ≡ 32)
+  pub full : (s : Sampler) (d : Asked) (trial : ℕ) (h : List ℕ) → call_number (call_of s (asks d trial h)) ≡ 9 → (taken_count s.places ≡ 32) × (trial_place s.places trial ≡ 32)
   pub ninth : (s : Sampler) (d : Asked) (r : Distribution) (trial : ℕ) (h : List ℕ)
       → T (sampler_ok s) → read_of d.kind d.low d.high d.log d.stepped d.step ≡ Some r → check_of s.settings.slots h ≡ Ok tt
-      → taken_count s.places ≡ 32 → trial_place s.places trial ≡ 32 → (call_of s (asks d trial h)).answer ≡ Err NoPlace
+      → taken_count s.places ≡ 32 → trial_place s.places trial ≡ 32 → call_number (call_of s (asks d trial h)) ≡ 9

@@ -68,7 +68,8 @@ point_drawn s c = list_of (λ j. unit_of (get_or (stream_of (s.settings.n_candid
 -- coordinate: "scales each to the internal bounds as `gp.rs` does, then applies `from_internal`"
 pub record Stores (s after : Sampler) (trial : ℕ) (point : List Float) : Type 0 where
   pub place : Place
-  pub placed : held_by after.places trial ≡ Some place
+  pub placed : trial_place after.places trial < 32
+  pub held : held_by after.places trial ≡ Some place
   pub decoded : (j : ℕ) → j < s.dimensions.count → T (continuous_of (dimension_at s.dimensions.list j).distribution)
       → decode_of (dimension_at s.dimensions.list j) (get_or point (length (columns_of s.dimensions.list j)) nan) ≡ Ok (stored_at place j)
 

@@ -1,4 +1,5 @@
 -- Runs of calls, and two runs whose histories agree. Definitions only.
+use Rattle.refusal.specs.Numbers.{number_of}
 use Rattle.std.specs.Prelude.{ℕ, List, [], ◌∷◌, Result, Ok, Err}
 use Rattle.refusal.specs.declared.Refusal.{Refusal}
 use Rattle.history_view.specs.Agree.{Agree}
@@ -24,6 +25,10 @@ pub data Call : Type 0 where
 abbrev pub call_of : Sampler → Call → Sampled
 call_of s (asks d trial h) = sample_of s d.kind d.low d.high d.log d.stepped d.step trial h
 call_of s (closes trial) = close_of s trial
+
+-- document 01's number of a call, 0 where it is accepted
+abbrev pub call_number : Sampled → ℕ
+call_number r = number_of r.answer
 
 -- the words that a call draws, 0 where it is refused
 abbrev pub words_in : Result Answer Refusal → ℕ

@@ -69,6 +69,6 @@ unfolding search_domain optimum_of
 optimize_acquisition_of m dims candidates w = cond (search_domain m dims w) (Ok (optimum_of m candidates w)) (Err OutOfDomain)
 
 -- the generator's word after an answer: a refusal leaves it as it was
-abbrev pub word_after : Result Candidate Refusal → ℕ → ℕ
-word_after (Ok found) w = found.next
-word_after (Err r) w = w
+abbrev pub word_after : ℕ → Result Candidate Refusal → ℕ
+word_after w (Ok found) = found.next
+word_after w (Err r) = w
