@@ -3,4 +3,4 @@
 
 pub mod words;
 
-pub use words::{distribution_of, round_trip, words_of};
+pub use words::{Words, distribution_of, round_trip, words_of};

@@ -5,6 +5,17 @@ ghost use Rattle.distribution_words.specs.Words.{words_of, read_of, checked_of, 
 
 use distribution::{CategoricalDistribution, Distribution, NumberDistribution, well_formed};
 
+// The six words that say a distribution, or none.
+#[derive(Clone, Copy)]
+pub struct Words {
+    pub kind: u64,
+    pub low: u64,
+    pub high: u64,
+    pub log: u64,
+    pub stepped: u64,
+    pub step: u64,
+}
+
 // The words of a distribution of numbers, by the words of its numbers; without a step its word is 0.
 fn number_words(kind: u64, d: NumberDistribution<u64>) -> [u64; 6]
     ensures { result ≡ number_words (λ w. w) kind d }
@@ -39,22 +50,16 @@ fn checked(d: Distribution) -> Option<Distribution>
     if well_formed(d) { Some(d) } else { None }
 }
 
-// The words of numbers that five words say, where the two flags are 0 or 1 and the step's word is 0 without a step.
-fn numbers(
-    low: u64,
-    high: u64,
-    log: u64,
-    stepped: u64,
-    step: u64,
-) -> Option<NumberDistribution<u64>>
-    ensures { result ≡ only (flags_ok log stepped step) (Some (number_of (λ w. w) low high log stepped step)) }
+// The words of the numbers of a distribution, where its flags are 0 or 1 and the step's word is 0 without a step.
+fn numbers(w: Words) -> Option<NumberDistribution<u64>>
+    ensures { result ≡ only (flags_ok w.log w.stepped w.step) (Some (number_of (λ w. w) w.low w.high w.log w.stepped w.step)) }
 {
-    if log <= 1 && (stepped == 1 || (stepped == 0 && step == 0)) {
+    if w.log <= 1 && (w.stepped == 1 || (w.stepped == 0 && w.step == 0)) {
         Some(NumberDistribution {
-            low,
-            high,
-            log_scale: log == 1,
-            step: (stepped == 1).then_some(step),
+            low: w.low,
+            high: w.high,
+            log_scale: w.log == 1,
+            step: (w.stepped == 1).then_some(w.step),
         })
     } else {
         None
@@ -63,25 +68,14 @@ fn numbers(
 
 // The distribution that six words say, or that they are malformed.
 #[tactic(auto, unfolding(crate::specs::Words::read_of))]
-pub fn distribution_of(
-    kind: u64,
-    low: u64,
-    high: u64,
-    log: u64,
-    stepped: u64,
-    step: u64,
-) -> Option<Distribution>
-    ensures { result ≡ read_of kind low high log stepped step }
+pub fn distribution_of(w: Words) -> Option<Distribution>
+    ensures { result ≡ read_of w.kind w.low w.high w.log w.stepped w.step }
 {
-    match kind {
-        1 => checked(Distribution::Float(numbers(low, high, log, stepped, step)?.map(
-            arith::float_of_word,
-        ))),
-        2 => checked(Distribution::Int(numbers(low, high, log, stepped, step)?.map(
-            arith::int_of_word,
-        ))),
-        3 if high == 0 && log == 0 && stepped == 0 && step == 0 => {
-            checked(Distribution::Categorical(CategoricalDistribution { n_choices: low }))
+    match w.kind {
+        1 => checked(Distribution::Float(numbers(w)?.map(arith::float_of_word))),
+        2 => checked(Distribution::Int(numbers(w)?.map(arith::int_of_word))),
+        3 if w.high == 0 && w.log == 0 && w.stepped == 0 && w.step == 0 => {
+            checked(Distribution::Categorical(CategoricalDistribution { n_choices: w.low }))
         }
         _ => None,
     }

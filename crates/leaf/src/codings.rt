@@ -1,14 +1,26 @@
 // The leaves of `distribution` and `common`. Six words are a distribution; a malformed one is 11.
 use crate::reply::{Failure, Reply, Results, exactly, put, put_float};
 use distribution::{Distribution, ParamValue};
+use distribution_words::Words;
 use refusal::Refusal;
+
+// Six words by their names.
+pub(crate) fn six(words: [u64; 6]) -> Words {
+    let [kind, low, high, log, stepped, step] = words;
+    Words {
+        kind,
+        low,
+        high,
+        log,
+        stepped,
+        step,
+    }
+}
 
 // The distribution of six words.
 pub(crate) fn distribution(words: &[u64]) -> Result<Distribution, Failure> {
-    let [kind, low, high, log, stepped, step]: [u64; 6] = exactly(words)?;
-    distribution_words::distribution_of(kind, low, high, log, stepped, step).ok_or(Failure::Refused(
-        Refusal::OutOfDomain,
-    ))
+    let words = six(exactly(words)?);
+    distribution_words::distribution_of(words).ok_or(Failure::Refused(Refusal::OutOfDomain))
 }
 
 // The kind and the word of a value.

@@ -45,8 +45,7 @@ fn divides(words: &[u64]) -> bool {
 fn made(s: Sampler, call: Call) -> Sampled {
     match call {
         Call::Sample(trial, words, history) => {
-            let [kind, low, high, log, stepped, step] = words;
-            sampler::sample(s, kind, low, high, log, stepped, step, trial, history)
+            sampler::sample(s, codings::six(words), trial, history)
         }
         Call::Close(trial) => sampler::close(s, trial),
     }

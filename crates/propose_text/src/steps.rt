@@ -6,6 +6,7 @@ ghost use Rattle.text_laws.specs.declared.Event.{Event};
 ghost use Rattle.text_laws.specs.declared.Stage.{Stage};
 
 use distribution::ParamValue;
+use distribution_words::Words;
 use refusal::Refusal;
 use sampler_laws::{Answer, Sampled};
 use settings::Settings;
@@ -179,12 +180,14 @@ fn called(r: &Reader, words: [u64; 7], history: &[u64; 8192]) -> Sampled
     let n = held(r.count);
     sampler::sample(
         r.sampler,
-        words[1],
-        words[2],
-        words[3],
-        words[4],
-        words[5],
-        words[6],
+        Words {
+            kind: words[1],
+            low: words[2],
+            high: words[3],
+            log: words[4],
+            stepped: words[5],
+            step: words[6],
+        },
         words[0],
         &history[..n],
     )

@@ -7,6 +7,7 @@ ghost use Rattle.sampler_laws.specs.Calls.{asked_of, sample_of, freed_of, close_
 
 use crate::{Tested, states};
 use distribution::Distribution;
+use distribution_words::Words;
 use refusal::Refusal;
 use sampler_laws::{Accepted, Answer, Sampled};
 use sampler_state::Sampler;
@@ -23,47 +24,22 @@ impl Tested<'_> {
 
 // The next value for a trial that asks these six words.
 #[tactic(auto, using(sampler_state::proofs::Checked::dimensions_few))]
-fn sampled(
-    s: &Sampler,
-    kind: u64,
-    low: u64,
-    high: u64,
-    log: u64,
-    stepped: u64,
-    step: u64,
-    trial: u64,
-    h: &[u64],
-) -> Result<Accepted, Refusal>
-    ensures { result ≡ cond (sampler_ok s.now) (asked_of s.now (read_of kind low high log stepped step) trial h.now) (Err OutOfDomain) }
+fn sampled(s: &Sampler, words: Words, trial: u64, h: &[u64]) -> Result<Accepted, Refusal>
+    ensures { result ≡ cond (sampler_ok s.now) (asked_of s.now (read_of words.kind words.low words.high words.log words.stepped words.step) trial h.now) (Err OutOfDomain) }
 {
     if !sampler_state::sampler_ok(s) {
         return Err(Refusal::OutOfDomain);
     }
-    let d = distribution_words::distribution_of(kind, low, high, log, stepped, step).ok_or(
-        Refusal::Malformed,
-    )?;
+    let d = distribution_words::distribution_of(words).ok_or(Refusal::Malformed)?;
     Tested { sampler: s }.asked(d, trial, h)
 }
 
 // The next value for a trial that asks these six words, with a history.
 #[tactic(auto, unfolding(sampler_laws::specs::Calls::sample_of))]
-pub fn sample(
-    s: Sampler,
-    kind: u64,
-    low: u64,
-    high: u64,
-    log: u64,
-    stepped: u64,
-    step: u64,
-    trial: u64,
-    h: &[u64],
-) -> Sampled
-    ensures { result ≡ sample_of s kind low high log stepped step trial h.now }
+pub fn sample(s: Sampler, words: Words, trial: u64, h: &[u64]) -> Sampled
+    ensures { result ≡ sample_of s words.kind words.low words.high words.log words.stepped words.step trial h.now }
 {
-    states::answered(
-        s,
-        sampled(&s, kind, low, high, log, stepped, step, trial, h),
-    )
+    states::answered(s, sampled(&s, words, trial, h))
 }
 
 // A trial's place freed.

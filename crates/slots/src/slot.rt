@@ -4,6 +4,7 @@ ghost use Rattle.arith.specs.Lists.{every};
 ghost use Rattle.slots.specs.Slot.{present, slot_read, taken_read, slot_ok, same_id, reads_equal, value_read, has_id};
 
 use distribution::{Distribution, ParamValue};
+use distribution_words::Words;
 
 // Word k, or 0 past the end.
 pub fn word(words: &[u64], k: usize) -> u64
@@ -23,14 +24,14 @@ pub fn is_present(slot: &[u64]) -> bool
 pub fn read(slot: &[u64]) -> Option<Distribution>
     ensures { result ≡ slot_read slot.now }
 {
-    distribution_words::distribution_of(
-        word(slot, 1),
-        word(slot, 2),
-        word(slot, 3),
-        word(slot, 4),
-        word(slot, 5),
-        word(slot, 6),
-    )
+    distribution_words::distribution_of(Words {
+        kind: word(slot, 1),
+        low: word(slot, 2),
+        high: word(slot, 3),
+        log: word(slot, 4),
+        stepped: word(slot, 5),
+        step: word(slot, 6),
+    })
 }
 
 // Whether a word may stand as the taken value of what was read.
