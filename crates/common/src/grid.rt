@@ -7,7 +7,8 @@ ghost use Rattle.common.specs.GridParts.{GridFits};
 use distribution::{FloatDistribution, IntDistribution};
 
 // What Rust's clamp answers; where high is below low, high, unless the raised value is no more than it.
-// Kept: by two tests, since f64::max answers the limit for a NaN, and clamp asks that low is at most high.
+// Kept: by two tests, since std's clamp asks that low is at most high, a clause in each function from here up to the
+// test of the shape; and f64::max answers the limit for a NaN.
 pub(crate) fn clamp<T: PartialOrd + Copy>(low: T, high: T, v: T) -> T
     ensures { result ≡ clamp_of (partial_lt T.partial_cmp) low high v }
 {

@@ -65,6 +65,8 @@ fn linear_float_random(w: u64, low: f64, high: f64) -> Result<Draw<ParamValue>, 
     Ok(r.with(ParamValue::Float(f64_range(low, high, r.value))))
 }
 
+// Kept: beside int_random, as each of its three draws beside an int's: a float's scales a unit float and rounds, an
+// int's counts; one function for both takes three closures, with a clause each, for its two tests.
 #[tactic(auto, unfolding(crate::specs::Random::float_random))]
 fn float_random(w: u64, d: FloatDistribution) -> Result<Draw<ParamValue>, Refusal>
     ensures { result ≡ float_random w d }

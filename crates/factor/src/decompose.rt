@@ -10,8 +10,8 @@ use crate::place;
 use refusal::Refusal;
 
 // a less the products of the rows i and j before column j.
-// Kept: beside the loops of next and unknown, which read other places; one for all takes two closures, with clauses that
-// each k has its place in the array and what is read there, for a loop of one line.
+// Kept: beside the loops of next and unknown, which read other places; one for all takes two closures, with clauses
+// that each k has its place in the array and what is read there, for a loop of one line.
 #[tactic(auto, unfolding(crate::specs::Triangle::less_of))]
 fn rest(l: &[f64; 5050], a: f64, i: usize, j: usize) -> f64
     requires { (i < 100) × (j ≤ i) }
@@ -27,7 +27,8 @@ fn rest(l: &[f64; 5050], a: f64, i: usize, j: usize) -> f64
 }
 
 // The factor's row i before the diagonal, written behind the rows before it.
-// Kept: a clause says what is written, not a struct's ghost field: a refused pivot leaves row i half written.
+// Kept: a clause says what is written, not a struct's ghost field: a refused pivot leaves row i half written, and a
+// struct by value is 40 kB, copied for each row.
 fn left(l: &mut [f64; 5050], a: &[f64; 5050], i: usize)
     requires { (i < 100) × (l.old ≡ padded 5050 (rows_of (factor_of (entry a.now)) i)) }
     ensures { l.new ≡ padded 5050 (rows_of (factor_of (entry a.now)) i ++ list_of (factor_of (entry a.now) i) i) }
@@ -56,6 +57,7 @@ fn row(l: &mut [f64; 5050], a: &[f64; 5050], i: usize) -> bool
 }
 
 // The factor's first n rows, into a triangle of zeros; false where a pivot is not above 0.
+// Kept: a bool, as row's, since the definition's test (`positive`) is one; cholesky names the cause.
 fn rows(l: &mut [f64; 5050], a: &[f64; 5050], n: usize) -> bool
     requires { (n ≤ 100) × (l.old ≡ padded 5050 []) }
     ensures { (result ≡ positive (entry a.now) n) × (result ≡ true → l.new ≡ padded 5050 (rows_of (factor_of (entry a.now)) n)) }

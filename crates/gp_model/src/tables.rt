@@ -5,6 +5,7 @@ ghost use Rattle.gp_model.specs.Statistics.{column_of, squares_of, mean_of, vari
 ghost use Rattle.gp_model.specs.Kernels.{row_of};
 
 // n rows of d columns.
+// Kept: with its counts, since the cells may be more than the rows', and say nothing of them without a column.
 #[derive(Clone, Copy)]
 pub(crate) struct Table<'a> {
     pub(crate) cells: &'a [f64],
@@ -39,8 +40,8 @@ impl<'a> Table<'a> {
     }
 
     // The sum of the squares of its distances from m.
-    // Kept: beside column_sum's loop; one for both takes a closure, a clause that it may be called on each cell, one that
-    // says its term there, and a proof of both in each caller, for a loop of two lines.
+    // Kept: beside column_sum's loop; one for both takes a closure, a clause that it may be called on each cell, one
+    // that says its term there, and a proof of both in each caller, for a loop of two lines.
     #[tactic(auto, unfolding(arith::specs::Sums::sum_over))]
     fn column_squares(&self, j: usize, m: f64) -> f64
         requires { j < self.now.d }

@@ -53,6 +53,7 @@ impl<'a> Row<'a> {
 }
 
 // The words of count rows.
+// Kept: with their count, by which the definitions go; a length over a width is a division in each.
 #[derive(Clone, Copy)]
 pub(crate) struct Rows<'a> {
     pub(crate) slots: usize,

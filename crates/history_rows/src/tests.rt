@@ -114,6 +114,7 @@ fn recent_rows(n: usize, h: &[u64]) -> usize
 }
 
 // Both, for slots up to 20; more are refused, and have none.
+// Kept: zeros for more, since its callers have tested the history, and would unwrap.
 #[tactic(auto, using(crate::proofs::Recent::older_inside), unfolding(crate::specs::Recent::recent_part))]
 pub fn recent_part(n: usize, h: &[u64]) -> RecentRows
     ensures is { result ≡ recent_part n h.now }

@@ -24,6 +24,7 @@ fn over(s: &[f64; 8], v: f64) -> [f64; 8]
 }
 
 // Row i of the forward solutions, from the rows before it in z.
+// Kept: the row's start as it stands in factor too: `place` there asks that its row is below 100, so it is not public.
 #[tactic(auto, using(factor::proofs::Triangle::at_room, crate::proofs::Less::row_start))]
 fn next(l: &[f64; 5050], b: &[[f64; 8]; 100], z: &[[f64; 8]; 100], i: usize) -> [f64; 8]
     requires { i < 100 }
@@ -77,6 +78,7 @@ fn backward(l: &[f64; 5050], z: &[[f64; 8]; 100], n: usize) -> [[f64; 8]; 100]
     ensures { result ≡ rows_of (lanes_of (λ (p : ℕ). backward_of l.now (lane_of z.now n p) n n) n) }
 {
     let mut x = [[0.0; 8]; 100];
+    // Kept: by the number of unknowns made, which unknown takes and the definition counts; a `rev` has i in its place.
     for m in 0..n {
         let i = n - 1 - m;
         x[i] = unknown(l, z, &x, i, m);

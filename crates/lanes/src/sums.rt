@@ -14,6 +14,8 @@ fn more(s: &[f64; 8], a: &[f64; 8], b: &[f64; 8]) -> [f64; 8]
 }
 
 // The dot products of the first n rows of a and b, lane by lane: zeros over 100 rows.
+// Kept: zeros, as dot_each, solve and kernel_vectors of lane_kernels: the search holds its counts in a struct (Lent),
+// and an Option of each would be unwrapped in each turn.
 #[tactic(auto, unfolding(crate::specs::Sums::dot_lanes_of))]
 pub fn dot(a: &[[f64; 8]; 100], b: &[[f64; 8]; 100], n: usize) -> [f64; 8]
     ensures { result ≡ dot_lanes_of a.now b.now n }

@@ -12,8 +12,8 @@ pub(crate) fn answer(line: &[u8], words: &mut [u64], results: &mut Results) -> R
     call(name, &words[..n], results)
 }
 
-// The leaf of that name, called on these words. The names are matched group by group: what proving a match of
-// texts costs grows with the square of its length.
+// The leaf of that name, called on these words.
+// Kept: the names are matched group by group: what proving a match of texts costs grows with the square of its length.
 fn call(name: &[u8], args: &[u64], results: &mut Results) -> Reply {
     match name {
         b"next" => draws::next(args, results),

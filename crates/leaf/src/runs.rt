@@ -70,6 +70,7 @@ fn calls(s: Sampler, words: &[u64], results: &mut Results) -> Reply
 {
     let mut held = s;
     let mut rest = words;
+    // Kept: `to` beside the calls, since how many words were put is what is answered.
     let mut to = 0;
     while let Some((call, after)) = first_call(rest) {
         let Sampled { answer, sampler } = made(held, call);

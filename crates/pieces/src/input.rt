@@ -94,7 +94,7 @@ impl Input {
     }
 
     // Reads the input to its end, or as far as its lines are taken.
-    // A proved loop has to end, and nothing says that the input does: no run uses up these turns.
+    // Kept: a proved loop has to end, and nothing says that the input does: no run uses up these turns.
     pub(crate) fn run<T: Lines>(&mut self, rt: HostRuntime, to: &mut T)
         ensures { self.new.left ≤ self.old.left }
     {

@@ -62,6 +62,7 @@ pub(crate) fn walk(
     let mut value = [ParamValue::Float(0.0); 20];
     let mut drawn = 0;
     let mut next = word;
+    // Kept: c, the continuous dimensions so far, which no range counts; the definition has it as columns_of's length.
     let mut c = 0;
     for j in 0..dims.count {
         let dim = dims.list[j];

@@ -12,6 +12,8 @@ fn is_spaced(line: &[u8], k: usize) -> bool
 }
 
 // Reads the words that stand at every 17th byte into out, from `at` on.
+// Kept: out and `at`, here and below, since a history's rows go into one lent array (document 01: fixed memory); and a
+// bool, since a line that breaks off leaves the words before in the array, and the definition says so.
 #[tactic(auto, using(crate::proofs::Stored::storing), unfolding(arith::specs::Lists::every))]
 fn store_words(line: &[u8], k: usize, out: &mut [u64], at: usize) -> bool
     requires { (length line.now + 1 ≡ 17 * k) × (at + k ≤ length out.old) }

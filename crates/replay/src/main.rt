@@ -14,7 +14,8 @@ fn next_length(rt: HostRuntime) -> Option<u64> {
     word_text::parse(digits)
 }
 
-// Each text in turn. A proved loop has to end: no list of texts uses up these turns.
+// Each text in turn.
+// Kept: a proved loop has to end: no list of texts uses up these turns.
 fn main(rt: HostRuntime) {
     for _ in 0..u64::MAX {
         let Some(len) = next_length(rt) else {

@@ -21,6 +21,7 @@ pub struct Place {
 }
 
 // A sampler: in discovery until it is active. Without dimensions there is no discovery trial yet.
+// Kept: an array of 32 places, since memory is fixed (document 01).
 #[derive(Clone, Copy)]
 pub struct Sampler {
     pub settings: Settings,

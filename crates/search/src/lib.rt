@@ -9,6 +9,7 @@ pub mod searching;
 pub use searching::{draw_point, optimize_acquisition};
 
 // A point, and the generator's word after the draws.
+// Kept: beside Draw, which has the words drawn: candidates times columns may be over u64::MAX.
 #[derive(Drop)]
 pub struct Candidate {
     pub x: [f64; 20],
@@ -24,8 +25,8 @@ pub struct Search {
 }
 
 // A model lent part by part, whose counts fit.
-// Kept: beside Model, since through one `&Model` the counts are read anew in each turn, measured 3 % slower; and with
-// its counts, since the slices are the whole of the model's arrays (document 01: fixed arrays with counts).
+// Kept: beside Model, since through one `&Model` the counts are read anew in each turn, measured 3 % slower; with its
+// counts, since the definition reads the whole of the model's arrays at them.
 #[derive(Clone, Copy)]
 pub(crate) struct Lent<'a> {
     pub x_train: &'a [f64],
