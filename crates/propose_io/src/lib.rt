@@ -10,15 +10,8 @@ mod text;
 ghost use Rattle.std.specs.Prelude.{◌≤◌};
 
 pub use pieces::skip;
-use std::env::{Env, FillError};
 use std::ops::ControlFlow;
 use text::{Answers, Points, Report, Text};
-
-// Whether the program was given an argument. None of these programs takes one.
-pub fn has_argument(rt: HostRuntime) -> bool {
-    let mut argument = [0u8; 1];
-    !matches!(rt.arg(1, &mut argument), Err(FillError::NotPresent))
-}
 
 // Writes these bytes; a failure is told on standard error.
 pub(crate) fn write(rt: HostRuntime, bytes: &[u8]) -> ControlFlow<()> {
