@@ -34,7 +34,7 @@ use Rattle.distribution.specs.Numbers.{IntDistribution}
 use Rattle.distribution.specs.declared.Distribution.{Distribution}
 use Rattle.distribution.specs.Shape.{power, shape_of, int_shape, continuous_of}
 use Rattle.distribution.proofs.Facts.{Bounded, IntRules, if-some, int-rules}
-use Rattle.encoding.specs.Bounds.{InternalBounds, ends_of, bounds_of}
+use Rattle.encoding.specs.Bounds.{InternalBounds, bounds_of}
 use Rattle.common.specs.Decode.{inside, one, unscale_of}
 use Rattle.common.specs.DecodeParts.{Decodable}
 use Rattle.std.specs.Option.{option_map_or}
@@ -43,7 +43,7 @@ use Rattle.common.specs.GridParts.{StepFits, GridFits, OutcomeFits}
 use Rattle.common.specs.Random.{range_of, log_range}
 use Rattle.common.specs.RandomParts.{LogFits}
 use Rattle.common.proofs.Saturate.{exact}
-use Rattle.encoding.proofs.EndLaws.{FloatsFit, on_log_scale, limit, EndRules, HasEnds, bounds, whole-within, well-formed}
+use Rattle.encoding.proofs.EndLaws.{FloatsFit, on_log_scale, limit, EndRules, HasEnds, bounds, whole-within}
 
 -- ---- powers of two
 
@@ -272,7 +272,7 @@ unscaled false lo hi u r b =
 
 pub record LogDrawn (d : Distribution) (u : Float) : Type 0 where
   pub value : Float
-  pub is : log_range (ends_of d) u ≡ Ok value
+  pub is : log_range (bounds_of d) u ≡ Ok value
   pub size : Within (power (pos 53)) value
   pub least : T (le (power (negsuc 52)) value)
 
@@ -280,9 +280,9 @@ pub log-drawn : (d : Distribution) → T (continuous_of d) → FloatsFit d → T
 log-drawn d c f t l u b =
     let r = bounds d c f t in
     let v = unscaled true r.lo r.hi u (subst (λ (g : Bool). EndRules g r.lo r.hi) l r.rules) b in
-    record { value = v.value; is = ap (λ (g : InternalBounds). log_range g u) (sym (well-formed d t) ∙ r.is) ∙ v.is; size = v.size; least = v.least tt }
+    record { value = v.value; is = ap (λ (g : InternalBounds). log_range g u) r.is ∙ v.is; size = v.size; least = v.least tt }
 
-pub log-steps : (d : IntDistribution) (u : Float) → T (int_shape d) → d.log_scale ≡ true → Between (of_bits binary64 0) one u → OutcomeFits d (log_range (ends_of (Distribution.Int d)) u)
+pub log-steps : (d : IntDistribution) (u : Float) → T (int_shape d) → d.log_scale ≡ true → Between (of_bits binary64 0) one u → OutcomeFits d (log_range (bounds_of (Distribution.Int d)) u)
 log-steps d u t l b =
     let v = log-drawn (Distribution.Int d) tt tt (unfold shape_of in t) l u b in
     subst (OutcomeFits d) (sym v.is) (steps-fit d v.value t (widen (power (pos 53)) (power (pos 57)) v.value (unfold le in tt) v.size))

@@ -31,7 +31,7 @@ use Rattle.distribution.specs.declared.ParamValue.{ParamValue}
 use Rattle.distribution.specs.Shape.{power, float_shape, int_shape, shape_of, continuous_of}
 use Rattle.distribution.specs.Taken.{taken_of}
 use Rattle.distribution.proofs.Facts.{float-rules, int-rules, categorical-rules, float-taken, int-taken, by-step}
-use Rattle.encoding.specs.Bounds.{scale_of, ends_of, bounds_of}
+use Rattle.encoding.specs.Bounds.{scale_of, bounds_of}
 use Rattle.common.specs.Decode.{one, inside, float_of, int_of, decoded_of, from_internal_of}
 use Rattle.encoding.specs.Encode.{to_internal_of}
 use Rattle.common.specs.Grid.{clamp_of, float_grid, int_grid}
@@ -145,7 +145,7 @@ module _ (w : ℕ) (h : Nonzero w) where
     unfolding log_float_random
     log-float l =
         let v = log-drawn D tt f (unfold shape_of in t) (is_true d.log_scale l) u unit in
-        unit-drawn w h D (λ u. made (log_float d) (log_range (ends_of D) u)) (log_float d v.value) (rw v.is) (go v.value v.size v.least) tt
+        unit-drawn w h D (λ u. made (log_float d) (log_range (bounds_of D) u)) (log_float d v.value) (rw v.is) (go v.value v.size v.least) tt
       where
         go : (v : Float) → Within (power (pos 53)) v → T (le (power (negsuc 52)) v) → T (taken_of D (log_float d v))
         go v s g =
@@ -188,7 +188,7 @@ module _ (w : ℕ) (h : Nonzero w) where
     log-int l =
         let v = log-drawn Z tt tt (unfold shape_of in t) (is_true d.log_scale l) u unit in
         let b = held (clamp_of lt_z d.low d.high (int_grid d v.value)) (clamp-whole d.low d.high (int_grid d v.value) (int-rules d t).order) in
-        unit-drawn w h Z (λ u. made (int_of d) (log_range (ends_of Z) u)) (int_of d v.value) (rw v.is) b.0 b.1
+        unit-drawn w h Z (λ u. made (int_of d) (log_range (bounds_of Z) u)) (int_of d v.value) (rw v.is) b.0 b.1
 
     stepped-int : (step : ℤ) → d.step ≡ Some step → Drawn w Z (stepped_int_random w d.low d.high step)
     unfolding stepped_int_random

@@ -1,4 +1,4 @@
--- `from_internal` of common.rs: a value of the model's space as a parameter's value. "Decode accepts finite values from lo − 1 to hi + 1 (internal bounds), else 11." Definitions only.
+-- `from_internal` of common.rs: a value of the model's space as a parameter's value. "Decode accepts finite values from lo − 1 to hi + 1 (internal bounds), else 11". Definitions only.
 use Rattle.refusal.specs.declared.Refusal.{Refusal}
 use Rattle.refusal.specs.declared.Refusal.TheVariants.{OutOfDomain}
 use Rattle.std.specs.Prelude.{Bool, false, ◌&&◌, cond, pos, Float, Result, Ok, Err, Some, None}

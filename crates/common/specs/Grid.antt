@@ -15,7 +15,7 @@ raised_to less low v = cond (less v low) low v
 abbrev pub clamp_of : {A : Type 0} → (A → A → Bool) → A → A → A → A
 clamp_of less low high v = let r = raised_to less low v in cond (less high r) high r
 
--- "let k = ((v - d.low) / step).round(); d.low + k * step", where there is a step
+-- `let k = ((v - d.low) / step).round(); d.low + k * step`, where there is a step
 unfoldable pub float_grid : FloatDistribution → Float → Float
 float_grid d v =
     option_map_or (λ step. add binary64 d.low (mul binary64 (round_of (div binary64 (sub binary64 v d.low) step)) step))
@@ -33,6 +33,6 @@ round_z x = to_signed 63 (round_of x)
 abbrev pub steps_to : ℤ → ℤ → Float → ℤ
 steps_to low step v = round_z (div binary64 (sub binary64 v (of_int binary64 low)) (of_int binary64 step))
 
--- "d.low.saturating_add(k.saturating_mul(step))", or the nearest whole number
+-- `d.low.saturating_add(k.saturating_mul(step))`, or the nearest whole number
 unfoldable pub int_grid : IntDistribution → Float → ℤ
 int_grid d v = option_map_or (λ step. saturated (d.low +ℤ saturated (steps_to d.low step v *ℤ step))) d.step (round_z v)

@@ -15,18 +15,18 @@ use Rattle.distribution.specs.Numbers.{FloatDistribution, IntDistribution}
 use Rattle.distribution.specs.declared.Distribution.{Distribution}
 use Rattle.distribution.specs.declared.ParamValue.{ParamValue}
 use Rattle.distribution.specs.Shape.{shape_of}
-use Rattle.encoding.specs.Bounds.{InternalBounds, ends_of}
+use Rattle.encoding.specs.Bounds.{InternalBounds, bounds_of}
 use Rattle.common.specs.Decode.{float_of, int_of}
 
 -- what f answers of the value drawn; a refusal draws nothing
 abbrev pub drawing : {A B : Type 0} → (A → Result B Refusal) → Result (Draw A) Refusal → Result (Draw B) Refusal
 drawing f r = and_then r (λ d. made (λ v. record { value = v; drawn = d.drawn; next = d.next }) (f d.value))
 
--- "low + rng.f64() * (high - low)"
+-- `low + rng.f64() * (high - low)`
 abbrev pub range_of : Float → Float → Float → Float
 range_of low high u = add binary64 low (mul binary64 u (sub binary64 high low))
 
--- on log scale: the exponential of a float between the logarithms of the ends
+-- on log scale: the exponential of a float between the internal bounds, the logarithms of the ends
 abbrev pub log_range : InternalBounds → Float → Result Float Refusal
 log_range (Ok (Some (lo, hi))) u = exp_of (range_of lo hi u)
 log_range (Ok None) u = Err OutOfDomain
@@ -38,9 +38,9 @@ log_float d v = option_map_or (λ step. float_of d v) d.step (ParamValue.Float v
 
 unfoldable pub log_float_random : ℕ → FloatDistribution → Result (Draw ParamValue) Refusal
 log_float_random w d =
-    drawing (λ u. made (log_float d) (log_range (ends_of (Distribution.Float d)) u)) (unit_draw_of w)
+    drawing (λ u. made (log_float d) (log_range (bounds_of (Distribution.Float d)) u)) (unit_draw_of w)
 
--- "let n_steps = ((d.high - d.low) / step).floor() as i64; let k = rng.i64(0..=n_steps); d.low + (k as f64) * step"
+-- `let n_steps = ((d.high - d.low) / step).floor() as i64; let k = rng.i64(0..=n_steps); d.low + (k as f64) * step`
 unfoldable pub stepped_float_random : ℕ → Float → Float → Float → Result (Draw ParamValue) Refusal
 stepped_float_random w low high step =
     read_by (λ k. ParamValue.Float (add binary64 low (mul binary64 (of_int binary64 k) step)))
@@ -56,9 +56,9 @@ float_random w d =
     (option_map_or (stepped_float_random w d.low d.high) d.step (linear_float_random w d.low d.high))
 
 unfoldable pub log_int_random : ℕ → IntDistribution → Result (Draw ParamValue) Refusal
-log_int_random w d = drawing (λ u. made (int_of d) (log_range (ends_of (Distribution.Int d)) u)) (unit_draw_of w)
+log_int_random w d = drawing (λ u. made (int_of d) (log_range (bounds_of (Distribution.Int d)) u)) (unit_draw_of w)
 
--- "let n_steps = (d.high - d.low) / step; let k = rng.i64(0..=n_steps); d.low + k * step"
+-- `let n_steps = (d.high - d.low) / step; let k = rng.i64(0..=n_steps); d.low + k * step`
 unfoldable pub stepped_int_random : ℕ → ℤ → ℤ → ℤ → Result (Draw ParamValue) Refusal
 stepped_int_random w low high step =
     read_by (λ k. ParamValue.Int (low +ℤ k *ℤ step)) (whole_draw_of w (pos 0) (quot_z (high -ℤ low) step))

@@ -6,7 +6,7 @@ ghost use Rattle.common.specs.RandomParts.{LogFits, Stepped};
 
 use crate::decode::{float_decoded, int_decoded};
 use distribution::{Distribution, FloatDistribution, IntDistribution, ParamValue};
-use encoding::{InternalBounds, ends};
+use encoding::{InternalBounds, internal_bounds};
 use refusal::Refusal;
 use rng_util::Draw;
 
@@ -43,7 +43,7 @@ fn log_float_random(w: u64, d: FloatDistribution) -> Result<Draw<ParamValue>, Re
     ensures { result ≡ log_float_random w d }
 {
     let r = rng_util::unit_float(w)?;
-    let v = log_range(ends(Distribution::Float(d)), r.value)?;
+    let v = log_range(internal_bounds(Distribution::Float(d)), r.value)?;
     Ok(r.with(log_float(d, v)))
 }
 
@@ -86,7 +86,7 @@ fn log_int_random(w: u64, d: IntDistribution) -> Result<Draw<ParamValue>, Refusa
     ensures { result ≡ log_int_random w d }
 {
     let r = rng_util::unit_float(w)?;
-    let v = log_range(ends(Distribution::Int(d)), r.value)?;
+    let v = log_range(internal_bounds(Distribution::Int(d)), r.value)?;
     Ok(r.with(int_decoded(d, v)))
 }
 

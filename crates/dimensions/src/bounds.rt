@@ -1,11 +1,12 @@
 // Dimensions: a distribution beside its bounds.
 ghost use Rattle.std.specs.Prelude.{◌≡◌, ◌<◌};
-ghost use Rattle.distribution.specs.Shape.{continuous_of};
+ghost use Rattle.distribution.specs.Shape.{shape_of, where_formed, continuous_of};
 ghost use Rattle.dimensions.specs.Dimensions.{same_bits, bounds_are, with_bounds, dimension_of, dimension_ok, dimensions_ok};
 
 use crate::{DimensionInfo, Dimensions};
 use distribution::Distribution;
 use encoding::InternalBounds;
+use refusal::Refusal;
 
 // Whether two floats have the same bits.
 // Kept: NaNs count as one float, whose pattern is `word_of_float`'s; `to_bits` may not be asked of a NaN.
@@ -43,11 +44,14 @@ fn with_bounds(distribution: Distribution, bounds: InternalBounds) -> DimensionI
     }
 }
 
-// The dimension of a distribution. That of a malformed one is malformed.
-pub fn dimension(distribution: Distribution) -> DimensionInfo
-    ensures { result ≡ dimension_of distribution }
+// The dimension of a distribution: 11 where that is malformed.
+pub fn dimension(distribution: Distribution) -> Result<DimensionInfo, Refusal>
+    ensures { result ≡ where_formed (shape_of distribution) (dimension_of distribution) }
 {
-    with_bounds(distribution, encoding::internal_bounds(distribution))
+    if !distribution::well_formed(distribution) {
+        return Err(Refusal::OutOfDomain);
+    }
+    Ok(with_bounds(distribution, encoding::internal_bounds(distribution)))
 }
 
 // Whether a dimension has its distribution's bounds.
@@ -66,7 +70,7 @@ pub fn dimensions_ok(dims: Dimensions) -> bool
     dims.count <= 20 && dims.list[..dims.count].iter().all(|d| dimension_ok(*d))
 }
 
-// Whether it is no choice.
+// Whether it is no choice: its kind alone, whatever its numbers.
 pub fn is_continuous(d: Distribution) -> bool
     ensures { result ≡ continuous_of d }
 {

@@ -25,7 +25,7 @@ use Rattle.distribution.specs.Equal.{equal_of}
 use Rattle.distribution.specs.Taken.{taken_of, float_taken, int_taken}
 use Rattle.distribution.proofs.Facts.{parts, float-rules}
 
-same : (a b : Distribution) → (derived.ghosts).eq a b ≡ equal_of a b
+pub same : (a b : Distribution) → (derived.ghosts).eq a b ≡ equal_of a b
 unfolding equal_of
 same (Distribution.Float a) (Distribution.Float b) = search rules
 same (Distribution.Float a) (Distribution.Int b) = refl

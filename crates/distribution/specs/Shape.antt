@@ -1,6 +1,8 @@
 -- Document 01, "Distribution": which are well-formed. Every limit on a float is a comparison of floats, so a NaN fails.
 -- Definitions only.
-use Rattle.std.specs.Prelude.{◌^◌, Bool, true, false, not, ◌&&◌, ◌||◌, leb, ℤ, pos, negsuc, neg_ℤ, Float}
+use Rattle.refusal.specs.declared.Refusal.TheVariants.{OutOfDomain}
+use Rattle.refusal.specs.declared.Refusal.{Refusal}
+use Rattle.std.specs.Prelude.{◌^◌, Bool, true, false, not, ◌&&◌, ◌||◌, cond, leb, ℤ, pos, negsuc, neg_ℤ, Float, Result, Ok, Err}
 use Rattle.std.specs.Option.{option_map_or}
 use Rattle.std.specs.Int.Signed.{le_z}
 use Rattle.std.specs.Float.{inf, fin, binary64}
@@ -62,6 +64,10 @@ unfolding float_shape int_shape categorical_shape
 shape_of (Distribution.Float d) = float_shape d
 shape_of (Distribution.Int d) = int_shape d
 shape_of (Distribution.Categorical d) = categorical_shape d
+
+-- what is answered where a test of shapes holds: "malformed distributions are 11"
+abbrev pub where_formed : {A : Type 0} → Bool → A → Result A Refusal
+where_formed formed x = cond formed (Ok x) (Err OutOfDomain)
 
 -- "A dimension is continuous unless it is a choice."
 abbrev pub continuous_of : Distribution → Bool

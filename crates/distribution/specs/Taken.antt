@@ -4,8 +4,7 @@ use Rattle.std.specs.Prelude.{ℕ, ◌^◌, Bool, false, ltb, ℤ, pos, negsuc, 
 use Rattle.std.specs.Int.Signed.{le_z}
 use Rattle.std.specs.Float.{binary64}
 use Rattle.std.specs.Float.Ieee.{le, neg, of_bits}
-use Rattle.std.specs.Int.{w64}
-use Rattle.std.proofs.Common.{to_z}
+use Rattle.std.specs.Int.{w64, cast_signed}
 use Rattle.distribution.specs.declared.Distribution.{Distribution}
 use Rattle.distribution.specs.declared.ParamValue.{ParamValue}
 use Rattle.distribution.specs.Shape.{power, ranged}
@@ -32,5 +31,5 @@ taken_of (Distribution.Categorical d) (ParamValue.Categorical v) = ltb v d.n_cho
 -- a word read as a value of the distribution's kind
 unfoldable pub value_of : Distribution → ℕ → ParamValue
 value_of (Distribution.Float d) w = ParamValue.Float (of_bits binary64 w)
-value_of (Distribution.Int d) w = ParamValue.Int (to_z w64 w)
+value_of (Distribution.Int d) w = ParamValue.Int (cast_signed w64 w)
 value_of (Distribution.Categorical d) w = ParamValue.Categorical w

@@ -2,8 +2,7 @@
 use Rattle.std.specs.Prelude.{ℕ}
 use Rattle.std.specs.Float.{binary64}
 use Rattle.std.specs.Float.Ieee.{to_bits}
-use Rattle.std.specs.Int.{w64}
-use Rattle.std.proofs.Common.{of_z}
+use Rattle.std.specs.Int.{w64, cast_unsigned}
 use Rattle.distribution.specs.declared.ParamValue.{ParamValue}
 
 abbrev pub kind_of : ParamValue → ℕ
@@ -13,5 +12,5 @@ kind_of (ParamValue.Categorical i) = 3
 
 abbrev pub word_of : ParamValue → ℕ
 word_of (ParamValue.Float x) = to_bits binary64 x
-word_of (ParamValue.Int z) = of_z w64 z
+word_of (ParamValue.Int z) = cast_unsigned w64 z
 word_of (ParamValue.Categorical i) = i

@@ -12,7 +12,7 @@ pub mod taken;
 
 pub use equality::equal;
 pub use shape::well_formed;
-pub use taken::{taken_rule, value_of_word};
+pub use taken::{float_taken, taken_rule, taken_value, value_of_word};
 
 // A parameter of floats or of integers, with a step where it has one.
 #[derive(Clone, Copy, PartialEq)]

@@ -1,10 +1,11 @@
 // Which distributions are well-formed.
 ghost use Rattle.std.specs.Prelude.{◌≡◌};
 ghost use Rattle.std.specs.Ordering.{partial_le};
-ghost use Rattle.distribution.specs.Shape.{ends, float_step, shape_of};
+ghost use Rattle.distribution.specs.Shape.{ends, float_step, shape_of, where_formed};
 
 use crate::limits::ranged;
 use crate::{Distribution, NumberDistribution};
+use refusal::Refusal;
 
 // Whether both ends are from least to most and in order, and on log scale at least first.
 fn ends<T: PartialOrd + Copy>(least: T, most: T, first: T, d: NumberDistribution<T>) -> bool
@@ -44,4 +45,14 @@ pub fn well_formed(d: Distribution) -> bool
         }
         Distribution::Categorical(c) => (1..=0x1_0000_0000).contains(&c.n_choices),
     }
+}
+
+// A distribution where it is well-formed; a malformed one is 11.
+pub(crate) fn formed(d: Distribution) -> Result<Distribution, Refusal>
+    ensures { result ≡ where_formed (shape_of d) d }
+{
+    if !well_formed(d) {
+        return Err(Refusal::OutOfDomain);
+    }
+    Ok(d)
 }

@@ -4,8 +4,7 @@ use Rattle.std.specs.Prelude.{ℕ, Bool, true, false, ◌&&◌, ◌||◌, cond, 
 use Rattle.std.specs.Option.{is_some, option_map, unwrap_or}
 use Rattle.std.specs.Float.{binary64}
 use Rattle.std.specs.Float.Ieee.{of_bits, to_bits}
-use Rattle.std.specs.Int.{w64}
-use Rattle.std.proofs.Common.{to_z, of_z}
+use Rattle.std.specs.Int.{w64, cast_signed, cast_unsigned}
 use Rattle.distribution.specs.declared.NumberDistribution.{NumberDistribution}
 use Rattle.distribution.specs.declared.Distribution.{Distribution}
 use Rattle.distribution.specs.Shape.{shape_of}
@@ -21,7 +20,7 @@ number_words word kind d =
 
 unfoldable pub words_of : Distribution → List ℕ
 words_of (Distribution.Float d) = number_words (to_bits binary64) 1 d
-words_of (Distribution.Int d) = number_words (of_z w64) 2 d
+words_of (Distribution.Int d) = number_words (cast_unsigned w64) 2 d
 words_of (Distribution.Categorical d) = 3 ∷ d.n_choices ∷ 0 ∷ 0 ∷ 0 ∷ 0 ∷ []
 
 -- where a test fails, the words are malformed
@@ -61,5 +60,5 @@ unfoldable pub read_of : ℕ → ℕ → ℕ → ℕ → ℕ → ℕ → Option 
 unfolding checked_of
 read_of kind low high log stepped step =
     cond (eqb kind 1) (number_read Distribution.Float (of_bits binary64) low high log stepped step)
-    (cond (eqb kind 2) (number_read Distribution.Int (to_z w64) low high log stepped step)
+    (cond (eqb kind 2) (number_read Distribution.Int (cast_signed w64) low high log stepped step)
     (cond (eqb kind 3) (categorical_read low high log stepped step) None))

@@ -1,9 +1,11 @@
 // The six words of a distribution.
 ghost use Rattle.std.specs.Prelude.{◌≡◌, Some};
+ghost use Rattle.distribution.specs.Shape.{shape_of, where_formed};
 ghost use Rattle.distribution_words.specs.RoundTrip.{RoundTrip};
 ghost use Rattle.distribution_words.specs.Words.{words_of, read_of, checked_of, number_words, flags_ok, number_of, only};
 
 use distribution::{CategoricalDistribution, Distribution, NumberDistribution, well_formed};
+use refusal::Refusal;
 
 // The six words that say a distribution, or none.
 #[derive(Clone, Copy)]
@@ -32,7 +34,7 @@ fn number_words(kind: u64, d: NumberDistribution<u64>) -> [u64; 6]
 
 // The words of a distribution: kind, low, high, log, stepped, step.
 #[tactic(auto, unfolding(crate::specs::Words::words_of))]
-pub fn words_of(d: Distribution) -> [u64; 6]
+fn written(d: Distribution) -> [u64; 6]
     ensures { result ≡ words_of d }
 {
     match d {
@@ -40,6 +42,16 @@ pub fn words_of(d: Distribution) -> [u64; 6]
         Distribution::Int(i) => number_words(2, i.map(arith::word_of_int)),
         Distribution::Categorical(c) => [3, c.n_choices, 0, 0, 0, 0],
     }
+}
+
+// The same of a well-formed one: 11 where it is malformed.
+pub fn words_of(d: Distribution) -> Result<[u64; 6], Refusal>
+    ensures { result ≡ where_formed (shape_of d) (words_of d) }
+{
+    if !well_formed(d) {
+        return Err(Refusal::OutOfDomain);
+    }
+    Ok(written(d))
 }
 
 // A distribution where it is well-formed.

@@ -21,7 +21,7 @@ fn pair(lo: Result<f64, Refusal>, hi: Result<f64, Refusal>) -> InternalBounds
 
 // The ends of a well-formed distribution.
 #[tactic(auto, unfolding(crate::specs::Bounds::ends_of))]
-pub fn ends(d: Distribution) -> InternalBounds
+fn ends(d: Distribution) -> InternalBounds
     ensures { result ≡ ends_of d }
 {
     match d {

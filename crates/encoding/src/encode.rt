@@ -1,17 +1,18 @@
 // A parameter's value in the model's space.
 ghost use Rattle.std.specs.Prelude.{◌≡◌};
+ghost use Rattle.distribution.specs.Taken.{taken_of};
 ghost use Rattle.encoding.specs.Encode.{encoded_of, to_internal_of};
 
 use crate::bounds::scale;
 use distribution::{Distribution, ParamValue};
 use refusal::Refusal;
 
-// Of a value under a well-formed distribution.
+// Of a value under a well-formed distribution, by whether it obeys the Taken rule.
 #[tactic(auto, unfolding(crate::specs::Encode::encoded_of))]
-fn encoded(v: ParamValue, d: Distribution) -> Result<f64, Refusal>
+fn encoded(v: ParamValue, d: Distribution, taken: bool) -> Result<f64, Refusal>
+    requires { taken ≡ taken_of d v }
     ensures { result ≡ encoded_of v d }
 {
-    let taken = distribution::taken_rule(d, v);
     match (d, v) {
         (Distribution::Float(f), ParamValue::Float(x)) => {
             if !taken {
@@ -34,8 +35,6 @@ fn encoded(v: ParamValue, d: Distribution) -> Result<f64, Refusal>
 pub fn to_internal(v: ParamValue, d: Distribution) -> Result<f64, Refusal>
     ensures { result ≡ to_internal_of v d }
 {
-    if !distribution::well_formed(d) {
-        return Err(Refusal::OutOfDomain);
-    }
-    encoded(v, d)
+    let taken = distribution::taken_rule(d, v)?;
+    encoded(v, d, taken)
 }

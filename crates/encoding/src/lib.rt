@@ -4,7 +4,7 @@
 pub mod bounds;
 pub mod encode;
 
-pub use bounds::{ends, internal_bounds};
+pub use bounds::internal_bounds;
 pub use encode::to_internal;
 use refusal::Refusal;
 

@@ -55,7 +55,7 @@ impl Recent<'_> {
         // Kept: two matches; as and_then and is_some_and they were tried, and the two closures' goals stayed open.
         match self.row_with(id) {
             Some(row) => match rows::slot_with(row, id) {
-                Some(first) => slots::reads_equal(slots::read(first), slots::read(slot)),
+                Some(first) => slots::reads_equal(first, slot),
                 None => false,
             },
             None => false,

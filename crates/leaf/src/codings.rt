@@ -38,7 +38,7 @@ pub(crate) fn equal(args: &[u64], results: &mut Results) -> Reply {
     let (first, second) = words.split_at(6);
     let a = distribution(first)?;
     let b = distribution(second)?;
-    put([u64::from(distribution::equal(a, b))], results)
+    put([u64::from(distribution::equal(a, b)?)], results)
 }
 
 pub(crate) fn taken(args: &[u64], results: &mut Results) -> Reply {
@@ -46,8 +46,8 @@ pub(crate) fn taken(args: &[u64], results: &mut Results) -> Reply {
         return Err(Failure::Unreadable);
     };
     let d = distribution(words)?;
-    let v = distribution::value_of_word(d, *w);
-    put([u64::from(distribution::taken_rule(d, v))], results)
+    let v = distribution::value_of_word(d, *w)?;
+    put([u64::from(distribution::taken_rule(d, v)?)], results)
 }
 
 pub(crate) fn internal_bounds(args: &[u64], results: &mut Results) -> Reply {

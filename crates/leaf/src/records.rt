@@ -38,15 +38,15 @@ pub(crate) fn history(args: &[u64], results: &mut Results) -> Reply {
 }
 
 // What stands past the dimensions: a choice of one.
-fn no_dimension() -> DimensionInfo {
+fn no_dimension() -> Result<DimensionInfo, Refusal> {
     dimensions::dimension(Distribution::Categorical(CategoricalDistribution { n_choices: 1 }))
 }
 
 // The dimensions of these words, six for each, up to 20; a malformed one is 11.
 fn read_dimensions(words: &[u64]) -> Result<[DimensionInfo; 20], Failure> {
-    let mut dims = [no_dimension(); 20];
+    let mut dims = [no_dimension()?; 20];
     for (dim, six) in dims.iter_mut().zip(words.chunks_exact(6)) {
-        *dim = dimensions::dimension(codings::distribution(six)?);
+        *dim = dimensions::dimension(codings::distribution(six)?)?;
     }
     Ok(dims)
 }

@@ -1,9 +1,10 @@
 // The mapping from the first recent row of a history.
-ghost use Rattle.std.specs.Prelude.{◌≡◌, ◌*◌, ◌≤◌, length, None};
+ghost use Rattle.std.specs.Prelude.{◌≡◌, ◌*◌, ◌≤◌, length, Some, None};
 ghost use Rattle.arith.specs.Lists.{filled};
 ghost use Rattle.param_mapping.specs.Mapping.{first_entry, entries_of, is_mapped, consumed_of, matches_of, mapped_of, asked_of, mapping_of};
 ghost use Rattle.param_mapping.specs.MappingParts.{beats_of, better_of};
 ghost use Rattle.history_rows.specs.Rows.{width_of, row_at};
+ghost use Rattle.slots.specs.Slot.{slot_read, reads_equal};
 
 use dimensions::Dimensions;
 use distribution::Distribution;
@@ -25,13 +26,24 @@ fn consumed(before: &[Option<u64>], id: u64) -> bool
     before.iter().any(|m| is_mapped(id, *m))
 }
 
+// Whether a slot reads as a distribution equal to this one.
+#[tactic(auto, using(distribution::proofs::Equals::same))]
+fn reads_as(d: Distribution, slot: &[u64]) -> bool
+    ensures { result ≡ reads_equal (Some d) (slot_read slot.now) }
+{
+    match slots::read(slot) {
+        Some(e) => d == e,
+        None => false,
+    }
+}
+
 // Whether the dimension after these may consume the slot.
 #[tactic(auto, unfolding(crate::specs::Mapping::matches_of))]
 fn matches(before: &[Option<u64>], d: Distribution, slot: &[u64]) -> bool
     requires { length slot.now ≡ 8 }
     ensures { result ≡ matches_of before.now (length before.now) d slot.now }
 {
-    slots::reads_equal(Some(d), slots::read(slot)) && !consumed(before, slot[0])
+    reads_as(d, slot) && !consumed(before, slot[0])
 }
 
 // Whether an id comes before that of the entry found so far.

@@ -9,15 +9,16 @@ use sampler_laws::Accepted;
 
 impl Tested<'_> {
     // The discovery trial: one more dimension and a random value for it. The 21st is refused.
-    #[tactic(auto, unfolding(sampler_laws::specs::Calls::discover_of))]
+    #[tactic(auto, unfolding(sampler_laws::specs::Calls::discover_of, common::specs::Random::sample_random_of))]
     fn discover(&self, d: Distribution, trial: u64) -> Result<Accepted, Refusal>
         ensures { result ≡ discover_of self.now.sampler.now d trial }
     {
         if self.sampler.dimensions.count == 20 {
             return Err(Refusal::TooManyDimensions);
         }
+        let grown = states::with_dimension(*self.sampler, trial, d)?;
         let draw = common::sample_random(self.sampler.word, d)?;
-        Ok(states::with_draw(states::with_dimension(*self.sampler, trial, d), draw))
+        Ok(states::with_draw(grown, draw))
     }
 
     // After discovery: the trial is served, and its place is written back.

@@ -1,5 +1,6 @@
 // A sampler with a field or two changed, and the answers made of it.
 ghost use Rattle.std.specs.Prelude.{◌≡◌, ◌<◌};
+ghost use Rattle.distribution.specs.Shape.{shape_of, where_formed};
 ghost use Rattle.sampler_laws.specs.Calls.{answered_of, with_word, with_place, activated, with_dimension, drawn_of, written_of};
 
 use distribution::{Distribution, ParamValue};
@@ -50,16 +51,20 @@ pub(crate) fn with_discovery_ended(mut s: Sampler) -> Sampler
     s
 }
 
-// One more dimension, for the discovery trial.
-pub(crate) fn with_dimension(mut s: Sampler, trial: u64, d: Distribution) -> Sampler
+// One more dimension, for the discovery trial: 11 where its distribution is malformed.
+pub(crate) fn with_dimension(
+    mut s: Sampler,
+    trial: u64,
+    d: Distribution,
+) -> Result<Sampler, Refusal>
     requires { s.dimensions.count < 20 }
-    ensures { result ≡ with_dimension s trial d }
+    ensures { result ≡ where_formed (shape_of d) (with_dimension s trial d) }
 {
     let k = s.dimensions.count;
     s.discovery_trial_id = trial;
-    s.dimensions.list[k] = dimensions::dimension(d);
+    s.dimensions.list[k] = dimensions::dimension(d)?;
     s.dimensions.count = k + 1;
-    s
+    Ok(s)
 }
 
 // A value, and the sampler with the generator's word after it.

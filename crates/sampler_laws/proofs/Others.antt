@@ -78,6 +78,10 @@ ends-other (Distribution.Float d) = pair-other _ _ (scale-other d.log_scale _) (
 ends-other (Distribution.Int d) = pair-other _ _ (scale-other d.log_scale _) (scale-other d.log_scale _)
 ends-other (Distribution.Categorical d) = (fine _)
 
+bounds-other : (d : Distribution) → Other (bounds_of d)
+unfolding bounds_of
+bounds-other d = by-test Other (shape_of d) _ _ (λ _. ends-other d) (λ _. domain _)
+
 -- ---- a decoding
 
 unscale-other : (log : Bool) (x : Float) → Other (unscale_of log x)
@@ -112,8 +116,8 @@ whole-other : (w : ℕ) (a b : ℤ) → Other (whole_draw_of w a b)
 unfolding whole_draw_of
 whole-other w a b = by-test Other (range_ok a b) _ _ (λ _. read-other _ _ (word-other w)) (λ _. (domain _))
 
-log-drawn : (w : ℕ) (d : Distribution) (f : Float → ParamValue) → Other (drawing (λ u. made f (log_range (ends_of d) u)) (unit_draw_of w))
-log-drawn w d f = then-other _ _ (unit-other w) (λ x. made-other _ _ (made-other f _ (log-other (ends_of d) x.value (ends-other d))))
+log-drawn : (w : ℕ) (d : Distribution) (f : Float → ParamValue) → Other (drawing (λ u. made f (log_range (bounds_of d) u)) (unit_draw_of w))
+log-drawn w d f = then-other _ _ (unit-other w) (λ x. made-other _ _ (made-other f _ (log-other (bounds_of d) x.value (bounds-other d))))
 
 pub random-other : (w : ℕ) (d : Distribution) → Other (sample_random_of w d)
 unfolding sample_random_of random_of float_random int_random log_float_random stepped_float_random linear_float_random log_int_random stepped_int_random linear_int_random categorical_random

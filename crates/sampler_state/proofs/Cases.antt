@@ -1,20 +1,16 @@
--- Places looked up, judged and counted, computed: a trial's place, the empty one where it has none, and where a place is written. Assumes nothing.
-use Rattle.std.specs.Prelude.{None}
+-- Places looked up and counted, computed: a trial's place, the empty one where it has none, and where a place is written. Assumes nothing.
 use Prim.Native.Nat.{ℕ}
 use mathlib.Core.Path.{◌≡◌, refl}
 use mathlib.Core.Bool.{true, false}
 use mathlib.Core.List.{List, [], ◌∷◌}
 use lib.ListN.{replicate, set}
 use lib.IntN.{pos}
-use lib.Ieee.{binary64, of_bits}
 use Rattle.arith.specs.Lists.{every, filled, place_of, places_of}
-use Rattle.distribution.specs.declared.Distribution.{Distribution}
 use Rattle.distribution.specs.declared.ParamValue.{ParamValue}
-use Rattle.dimensions.specs.declared.DimensionInfo.{DimensionInfo}
 use Rattle.dimensions.specs.Empty.{empty_value}
 use Rattle.std.specs.Prelude.{Option, Some}
 use Rattle.sampler_state.specs.declared.Place.{Place}
-use Rattle.sampler_state.specs.State.{empty_place, trial_place, free_place, held_by, spot_for, taken_count, place_ok, trials_once}
+use Rattle.sampler_state.specs.State.{empty_place, trial_place, free_place, held_by, spot_for, taken_count, trials_once}
 
 -- a place of a trial with the values 2 and 7 and a next dimension
 abbrev place : ℕ → ℕ → Option Place
@@ -28,12 +24,9 @@ some = set (set (replicate 32 empty_place) 1 (place 7 2)) 2 (place 8 1)
 abbrev full : List (Option Place)
 full = replicate 32 (place 7 1)
 
--- a choice of 5 and an int from 0 to 9
-abbrev dims : List DimensionInfo
-dims =
-    (record { distribution = Distribution.Categorical (record { n_choices = 5 }); lo = of_bits binary64 0; hi = of_bits binary64 0 })
-    ∷ (record { distribution = Distribution.Int (record { low = pos 0; high = pos 9; log_scale = false; step = None }); lo = of_bits binary64 0; hi = of_bits binary64 0 })
-    ∷ []
+-- places 0 and 2 are taken
+abbrev gap : List (Option Place)
+gap = set (set (replicate 32 empty_place) 0 (place 7 2)) 2 (place 8 1)
 
 abbrev Places : Type 0
 Places =
@@ -41,10 +34,14 @@ Places =
     (held_by some 8 ≡ place 8 1)
     × (held_by some 9 ≡ empty_place)
     × (trial_place some 9 ≡ 32)
+    -- the first free one, not the last
     × (free_place some ≡ 0)
+    × (free_place gap ≡ 1)
+    × (free_place full ≡ 32)
     -- it is written where it is, though an earlier one is free; a new trial's in the first free one; there may be none
     × (spot_for some 8 ≡ 2)
     × (spot_for some 9 ≡ 0)
+    × (spot_for gap 9 ≡ 1)
     × (spot_for full 8 ≡ 32)
     × (spot_for full 7 ≡ 0)
     × (taken_count some ≡ 2)
@@ -53,16 +50,7 @@ Places =
     × (trials_once some ≡ true)
     × (trials_once (set some 5 (place 8 1)) ≡ false)
     × (trials_once (set some 5 empty_place) ≡ true)
-    -- the next dimension of a taken place is from 1 to the count; a free one is not judged
-    × (place_ok true dims 2 (place 7 0) ≡ false)
-    × (place_ok true dims 2 (place 7 1) ≡ true)
-    × (place_ok true dims 2 (place 7 2) ≡ true)
-    × (place_ok true dims 2 (place 7 3) ≡ false)
-    × (place_ok true dims 2 empty_place ≡ true)
-    -- in discovery no place is taken, and a value is of its dimension's kind
-    × (place_ok false dims 2 (place 7 1) ≡ false)
-    × (place_ok true dims 2 (Some (record { trial = 7; values = filled empty_value 20 []; next_dim = 1 })) ≡ false)
 
 places : Places
-unfolding trial_place free_place spot_for taken_count place_ok trials_once every place_of places_of
-places = (refl, refl, refl, refl, refl, refl, refl, refl, refl, refl, refl, refl, refl, refl, refl, refl, refl, refl, refl, refl)
+unfolding trial_place free_place spot_for taken_count trials_once every place_of places_of
+places = (refl, refl, refl, refl, refl, refl, refl, refl, refl, refl, refl, refl, refl, refl, refl, refl)

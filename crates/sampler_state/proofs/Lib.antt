@@ -1,7 +1,7 @@
 mod Cases
 pub mod Checked
+mod Clauses
 pub mod Elements
 mod Indices
 pub mod Held
 mod Judged
-mod StoredValues

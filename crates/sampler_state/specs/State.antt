@@ -32,7 +32,7 @@ empty_place = None
 abbrev pub fresh_of : Settings → Sampler
 fresh_of s = record { settings = s; word = s.seed; active = false; discovery_trial_id = 0; dimensions = record { list = replicate 20 empty_dimension; count = 0 }; places = replicate 32 empty_place }
 
--- "setting out of range 1"
+-- "setting out of range": number 1
 unfoldable pub make_of : Settings → Result Sampler Refusal
 make_of s = cond (settings_ok s) (Ok (fresh_of s)) (Err Refusal.Settings)
 

@@ -1,5 +1,6 @@
 // Whether a sampler is well-formed.
 ghost use Rattle.std.specs.Prelude.{◌≡◌, not, ◌&&◌, ◌||◌, ◌≤◌, eqb, leb, length, take};
+ghost use Rattle.std.specs.Int.Signed.{le_z};
 ghost use Rattle.std.specs.List.{list_all, zip};
 ghost use Rattle.settings.specs.Settings.{settings_ok};
 ghost use Rattle.sampler_state.specs.State.{same_trial, trials_once};
@@ -10,23 +11,21 @@ use dimensions::{DimensionInfo, Dimensions};
 use distribution::{Distribution, IntDistribution, ParamValue};
 
 // Whether an int's value lies between its ends.
-fn int_ok(d: IntDistribution, value: ParamValue) -> bool
-    ensures { result ≡ stored_ok (Distribution.Int d) value }
+fn int_ok(d: IntDistribution, z: i64) -> bool
+    ensures { result ≡ (le_z d.low z && le_z z d.high) }
 {
-    match value {
-        ParamValue::Int(z) => (d.low..=d.high).contains(&z),
-        _ => false,
-    }
+    (d.low..=d.high).contains(&z)
 }
 
 // Whether a value is one that a place stores for the distribution.
-#[tactic(auto, using(crate::proofs::StoredValues::same_rule))]
 fn value_ok(d: Distribution, value: ParamValue) -> bool
     ensures { result ≡ stored_ok d value }
 {
-    match d {
-        Distribution::Int(i) => int_ok(i, value),
-        _ => distribution::taken_rule(d, value),
+    match (d, value) {
+        (Distribution::Float(f), ParamValue::Float(x)) => distribution::float_taken(f.log_scale, x),
+        (Distribution::Int(i), ParamValue::Int(z)) => int_ok(i, z),
+        (Distribution::Categorical(c), ParamValue::Categorical(k)) => k < c.n_choices,
+        _ => false,
     }
 }
 

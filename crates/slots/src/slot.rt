@@ -1,9 +1,9 @@
 // One slot: eight words. A word past the end is 0.
 ghost use Rattle.std.specs.Prelude.{◌≡◌, get_or, eqb};
 ghost use Rattle.arith.specs.Lists.{every};
-ghost use Rattle.slots.specs.Slot.{present, slot_read, taken_read, slot_ok, same_id, reads_equal, value_read, has_id};
+ghost use Rattle.slots.specs.Slot.{present, slot_read, taken_word, taken_read, slot_ok, same_id, reads_equal, value_read, has_id};
 
-use distribution::{Distribution, ParamValue};
+use distribution::{Distribution, ParamValue, taken_value, value_of_word};
 use distribution_words::Words;
 
 // Word k, or 0 past the end.
@@ -34,26 +34,24 @@ pub fn read(slot: &[u64]) -> Option<Distribution>
     })
 }
 
-// Whether a word may stand as the taken value of what was read.
-fn taken_read(read: Option<Distribution>, word: u64) -> bool
-    ensures { result ≡ taken_read read word }
+// Whether it reads as a distribution whose Taken rule its value obeys.
+#[tactic(auto, using(crate::proofs::WellFormed::read_formed))]
+fn taken_read(slot: &[u64]) -> bool
+    ensures { result ≡ taken_read (slot_read slot.now) (taken_word slot.now) }
 {
-    read.is_some_and(|d| distribution::taken_rule(d, distribution::value_of_word(d, word)))
-}
-
-// A word as a value of what was read.
-fn value_read(read: Option<Distribution>, word: u64) -> Option<ParamValue>
-    ensures { result ≡ value_read read word }
-{
-    let d = read?;
-    Some(distribution::value_of_word(d, word))
+    match read(slot) {
+        Some(d) => matches!(taken_value(d, word(slot, 7)), Ok(Some(_))),
+        None => false,
+    }
 }
 
 // Its taken value, where it reads as a distribution.
+#[tactic(auto, using(crate::proofs::WellFormed::read_formed))]
 pub fn value(slot: &[u64]) -> Option<ParamValue>
-    ensures { result ≡ value_read (slot_read slot.now) (get_or slot.now 7 0) }
+    ensures { result ≡ value_read (slot_read slot.now) (taken_word slot.now) }
 {
-    value_read(read(slot), word(slot, 7))
+    let d = read(slot)?;
+    value_of_word(d, word(slot, 7)).ok()
 }
 
 fn all_zero(slot: &[u64]) -> bool
@@ -68,7 +66,7 @@ pub fn slot_ok(slot: &[u64]) -> bool
     ensures { result ≡ slot_ok slot.now }
 {
     if is_present(slot) {
-        taken_read(read(slot), word(slot, 7))
+        taken_read(slot)
     } else {
         all_zero(slot)
     }
@@ -88,12 +86,13 @@ pub fn same_id(a: &[u64], b: &[u64]) -> bool
     is_present(a) && is_present(b) && word(a, 0) == word(b, 0)
 }
 
-// Whether two distributions that were read are equal.
-pub fn reads_equal(a: Option<Distribution>, b: Option<Distribution>) -> bool
-    ensures { result ≡ reads_equal a b }
+// Whether two slots read as equal distributions.
+#[tactic(auto, using(distribution::proofs::Equals::same))]
+pub fn reads_equal(a: &[u64], b: &[u64]) -> bool
+    ensures { result ≡ reads_equal (slot_read a.now) (slot_read b.now) }
 {
-    match (a, b) {
-        (Some(d), Some(e)) => distribution::equal(d, e),
+    match (read(a), read(b)) {
+        (Some(d), Some(e)) => d == e,
         _ => false,
     }
 }

@@ -28,7 +28,7 @@ returns-in-Some-slot_with c =
     let first = c.in-Some-slot_with.first.now in
     let e : first ≡ first_slot_with s.slots (row_count s.slots s.words.now) s.words.now c.word-id.result =
     first_found s.slots s.words.now c.word-id.result c.in-Some.row.now first (found (goal.at.returns-in-Some-slot_with c).In-Some) (sym c.slot_with.ensures ∙ ap (option_map (λ r. r.now)) c.in-Some-slot_with.is) in
-    rw (sym c.is_present.ensures, c.if-not-is_present.false, sym c.word-id.ensures, sym e, sym c.read.ensures, sym c.read-in-Some-slot_with.ensures) c.reads_equal.ensures
+    rw (sym c.is_present.ensures, c.if-not-is_present.false, sym c.word-id.ensures, sym e) c.reads_equal.ensures
 
 pub returns-in-None-slot_with : goal.returns-in-None-slot_with
 returns-in-None-slot_with c =
