@@ -7,7 +7,7 @@ ghost use Rattle.arith.specs.Choice.{positive_part};
 ghost use Rattle.arith.specs.Outcome.{value_of};
 ghost use Rattle.root.specs.Sqrt.{sqrt_of};
 ghost use Rattle.lanes.specs.Rows.{eight_of, lane_of};
-ghost use Rattle.rng_util.proofs.Nonzero.{Nonzero};
+ghost use Rattle.rng_util.specs.Generator.{Nonzero};
 ghost use Rattle.search.specs.Eights.{Words, starts_of, column_of, points_of, kept_each_of};
 ghost use Rattle.search.specs.Lent.{model_of};
 ghost use Rattle.search.specs.Search.{point_of, score_of, kept_of, advance_of};
