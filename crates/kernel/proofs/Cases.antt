@@ -12,7 +12,7 @@ use Rattle.std.specs.Prelude.{Result, Ok, Err}
 use Rattle.arith.specs.Rounding.{nearest_of, round_of}
 use Rattle.root.specs.Sqrt.{isqrt, root_of, sqrt_of}
 use Rattle.arith.specs.Sums.{sum_over}
-use Rattle.kernel.specs.Matern.{square, fits, squared_distance_of, sqrt5, polynomial_of, scaled_root_of, decay_of, at_of, squared_of, matern52_of}
+use Rattle.kernel.specs.Matern.{square, fits, squared_distance_of, sqrt5, polynomial_of, scaled_root_of, decay_of, at_of, matern52_of}
 
 abbrev float : ℕ → Float
 float n = of_int binary64 (pos n)
@@ -38,17 +38,16 @@ abbrev Columns : Type 0
 Columns =
     (matern52_of (float 0 ∷ float 0 ∷ []) (float 1 ∷ float 2 ∷ []) (float 1 ∷ float 2 ∷ []) (float 2) ≡ Ok (of_bits binary64 0x3fe44d7176ef4776))
     × (matern52_of (float 0 ∷ []) (float 1 ∷ []) [] (float 1) ≡ Err OutOfDomain)
+    × (matern52_of (float 0 ∷ []) [] (float 1 ∷ []) (float 1) ≡ Err OutOfDomain)
 
 columns : Columns
 unfolding matern52_of scaled_root_of decay_of sum_over exp_of horner_of reduced_of scaled_of whole_of nearest_of round_of sqrt_of root_of isqrt of_bits to_bits round add sub mul div neg lt is_nan of_int
-columns = (refl, refl)
+columns = (refl, refl, refl)
 
 -- the differences 3 and 4 under the lengthscales 1 and 2 have the squares 9 and 4; document 01's constant, by its decimals; 1 + 3 + 5/3 × 3
 abbrev Parts : Type 0
 Parts =
     (squared_distance_of (float 1 ∷ float 2 ∷ []) (float 4 ∷ float 6 ∷ []) (float 1 ∷ float 2 ∷ []) ≡ float 13)
-    × (squared_of (float 1 ∷ []) [] (float 1 ∷ []) ≡ Err OutOfDomain)
-    × (squared_of (float 1 ∷ []) (float 3 ∷ []) (float 1 ∷ []) ≡ Ok (of_bits binary64 0x4010000000000000))
     × (fits (float 1 ∷ []) (float 1 ∷ []) [] ≡ false)
     × (square (float 3) ≡ float 9)
     × (sqrt5 ≡ round binary64 false 2236213562373095 1000000000000000)
@@ -57,5 +56,5 @@ Parts =
     × (at_of (float 1) (float 1) ≡ Ok (of_bits binary64 0x3fe0c40ff2efde8c))
 
 parts : Parts
-unfolding squared_of scaled_root_of decay_of sum_over exp_of horner_of reduced_of scaled_of whole_of nearest_of round_of sqrt_of root_of isqrt of_bits to_bits round add sub mul div neg lt is_nan of_int
-parts = (refl, refl, refl, refl, refl, refl, refl, refl, refl)
+unfolding scaled_root_of decay_of sum_over exp_of horner_of reduced_of scaled_of whole_of nearest_of round_of sqrt_of root_of isqrt of_bits to_bits round add sub mul div neg lt is_nan of_int
+parts = (refl, refl, refl, refl, refl, refl, refl)
