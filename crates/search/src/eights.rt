@@ -73,10 +73,11 @@ fn improvements(means: &[f64; 8], products: &[f64; 8], f_best: f64) -> [f64; 8]
 fn scores(m: Lent, points: &[[f64; 8]; 20]) -> [f64; 8]
     ensures { result ≡ eight_of (λ (p : ℕ). score_of (model_of m.entry) (lane_of points.now m.entry.d p)) }
 {
-    let k = lane_kernels::kernel_vectors(points, m.x_train, m.n, &m.lengthscales[..m.d]);
-    let means = lanes::dot_each(&k, m.alpha, m.n);
-    let v = lanes::solve(m.cholesky, &k, m.n);
-    let products = lanes::dot(&k, &v, m.n);
+    let lengthscales = &m.lengthscales[..m.d];
+    let k = lane_kernels::kernel_vectors(points, m.x_train, m.n, lengthscales).unwrap();
+    let means = lanes::dot_each(&k, m.alpha, m.n).unwrap();
+    let v = lanes::solve(m.cholesky, &k, m.n).unwrap();
+    let products = lanes::dot(&k, &v, m.n).unwrap();
     improvements(&means, &products, m.f_best)
 }
 
