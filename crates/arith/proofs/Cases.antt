@@ -2,14 +2,15 @@
 use Rattle.refusal.specs.declared.Refusal.TheVariants.{OutOfDomain, Settings, Malformed}
 use Rattle.std.specs.Prelude.{Ok, Err}
 use Rattle.std.proofs.Common.{◌≡◌, ℕ, ◌+◌, ◌*◌, ◌%◌, Bool, true, false, eqb, ltb, List, [], ◌∷◌, length, pos, negsuc, refl}
-use lib.Ieee.{Float, nan, inf, binary64, of_bits, of_int, to_bits, round, add, mul, neg, lt, le, is_nan}
+use lib.ListN.{get_or}
+use lib.Ieee.{Float, nan, inf, binary64, of_bits, of_int, round, add, mul, neg, lt, le, is_nan}
 use Rattle.arith.specs.Bounds.{real, abs, negative, Within, Between, Sign}
 use Rattle.arith.specs.Choice.{at_least, positive_part, lesser_of, least_of_first, least_of}
 use Rattle.arith.specs.Lists.{grown, list_of, filled, padded, every, place_of, places_of}
 use Rattle.arith.specs.Ln2.{H, L}
-use Rattle.arith.specs.Outcome.{word_of, value_of, made, pick}
+use Rattle.arith.specs.Outcome.{value_of, made, pick}
 use Rattle.arith.specs.Rounding.{nearest_of, round_of, floor_of}
-use Rattle.arith.specs.Sums.{sum_over, sum_of, products, dot_of}
+use Rattle.arith.specs.Sums.{sum_over, products, dot_of}
 
 abbrev float : ℕ → Float
 float n = of_int binary64 (pos n)
@@ -77,16 +78,15 @@ parts = refl
 
 abbrev Answers : Type 0
 Answers =
-    (word_of (Ok (float 1)) ≡ 0x3ff0000000000000)
-    × (word_of (Err OutOfDomain) ≡ 0)
+    (value_of (Ok (float 1)) ≡ float 1)
     × (value_of (Err OutOfDomain) ≡ nan)
     × (made neg (Ok plus0) ≡ Ok minus0)
     × (made neg (Err OutOfDomain) ≡ Err OutOfDomain)
     × (pick true (Err Settings) (Err Malformed) ≡ Err Settings)
 
 answers : Answers
-unfolding of_bits of_int round to_bits neg
-answers = (refl, refl, refl, refl, refl, refl)
+unfolding of_bits of_int round neg
+answers = (refl, refl, refl, refl, refl)
 
 -- 2.5 and -2.5, the float below a half, -0.25 and -0, as Rust's round and floor have them
 abbrev Rounded : Type 0
@@ -107,12 +107,12 @@ rounded = (refl, refl, refl, refl, refl, refl, refl, refl)
 -- 2^53 and two ones: from the left each one is lost; a sum starts from +0
 abbrev Summed : Type 0
 Summed =
-    (to_bits binary64 (sum_of (of_bits binary64 0x4340000000000000 ∷ float 1 ∷ float 1 ∷ [])) ≡ 0x4340000000000000)
-    × (sum_of (minus0 ∷ []) ≡ plus0)
+    (sum_over 3 (λ i. get_or (of_bits binary64 0x4340000000000000 ∷ float 1 ∷ float 1 ∷ []) i nan) ≡ of_bits binary64 0x4340000000000000)
+    × (sum_over 1 (λ i. minus0) ≡ plus0)
     × (products (float 1 ∷ float 2 ∷ []) (float 3 ∷ float 4 ∷ []) ≡ float 11)
     × (dot_of (float 1 ∷ float 2 ∷ []) (float 3 ∷ float 4 ∷ []) ≡ Ok (float 11))
     × (dot_of (float 1 ∷ []) [] ≡ Err OutOfDomain)
 
 summed : Summed
-unfolding sum_over of_bits of_int to_bits round add mul
+unfolding sum_over of_bits of_int round add mul
 summed = (refl, refl, refl, refl, refl)

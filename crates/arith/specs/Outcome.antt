@@ -1,11 +1,7 @@
--- What an answer says beside its number (refusal/specs/Numbers): the word of its value, and its value. Definitions only.
+-- What an answer says beside its number (refusal/specs/Numbers): its value, and what is made of it. Definitions only.
 use Rattle.refusal.specs.declared.Refusal.{Refusal}
-use Rattle.std.specs.Prelude.{ℕ, Bool, true, false, to_bits, Float, Result, Ok, Err}
-use Rattle.std.specs.Float.{nan, binary64}
-
-abbrev pub word_of : Result Float Refusal → ℕ
-word_of (Ok x) = to_bits binary64 x
-word_of (Err r) = 0
+use Rattle.std.specs.Prelude.{Bool, true, false, Float, Result, Ok, Err}
+use Rattle.std.specs.Float.{nan}
 
 -- the value, a NaN where there is none: for answers that a theorem shows to be accepted
 abbrev pub value_of : Result Float Refusal → Float

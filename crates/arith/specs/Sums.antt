@@ -1,7 +1,7 @@
 -- "Sum and dot: left to right from +0." Definitions only.
 use Rattle.refusal.specs.declared.Refusal.TheVariants.{OutOfDomain}
 use Rattle.refusal.specs.declared.Refusal.{Refusal}
-use Rattle.std.specs.Prelude.{ℕ, zero, suc, List, length, get_or, ◌==◌, from_bits, slice_index_or, Float, Result, Ok, Err}
+use Rattle.std.specs.Prelude.{ℕ, zero, suc, List, length, ◌==◌, from_bits, slice_index_or, Float, Result, Ok, Err}
 use Rattle.std.specs.Float.{nan, binary64}
 use Rattle.std.specs.Float.Ieee.{add, mul}
 use Rattle.arith.specs.Outcome.{pick}
@@ -10,9 +10,6 @@ use Rattle.arith.specs.Outcome.{pick}
 unfoldable pub sum_over : ℕ → (ℕ → Float) → Float
 sum_over zero t = from_bits binary64 0
 sum_over (suc n) t = add binary64 (sum_over n t) (t n)
-
-abbrev pub sum_of : List Float → Float
-sum_of xs = sum_over (length xs) (λ i. get_or xs i nan)
 
 -- of two lists of one length
 abbrev pub products : List Float → List Float → Float

@@ -28,7 +28,7 @@ pub fn positive_part(v: f64) -> f64
 
 // The earlier of two values, unless the later is less.
 // Kept: f64::min may answer either of two equal values, and the other one for a NaN.
-pub fn lesser(earlier: f64, later: f64) -> f64
+fn lesser(earlier: f64, later: f64) -> f64
     ensures { result ≡ lesser_of earlier later }
 {
     if later < earlier { later } else { earlier }

@@ -10,10 +10,10 @@ pub mod rounding;
 pub mod sums;
 pub mod words;
 
-pub use choice::{abs, at_least, least, lesser, positive_part};
+pub use choice::{abs, at_least, least, positive_part};
 use refusal::Refusal;
 pub use rounding::{floor, round};
-pub use sums::{dot, sum};
+pub use sums::dot;
 pub use words::{
     float_of_int, float_of_word, int_of_float, int_of_word, word_of_float, word_of_int,
 };

@@ -1,19 +1,8 @@
-// Sums and products of lists, left to right from +0.
+// Sums of products, left to right from +0.
 ghost use Rattle.std.specs.Prelude.{◌≡◌, length};
-ghost use Rattle.arith.specs.Sums.{sum_of, dot_of, products};
+ghost use Rattle.arith.specs.Sums.{dot_of, products};
 
 use refusal::Refusal;
-
-// The sum of a list.
-pub fn sum(xs: &[f64]) -> f64
-    ensures { result ≡ sum_of xs.now }
-{
-    let mut total = 0.0;
-    for x in xs {
-        total = total + *x;
-    }
-    total
-}
 
 // The sum of the products of two lists of one length.
 fn sum_of_products(xs: &[f64], ys: &[f64]) -> f64

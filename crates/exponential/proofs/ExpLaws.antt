@@ -1,7 +1,7 @@
 -- Where exp is accepted and how large it is, about the definition itself. The polynomial is from 0.5 to 1.5, so with a k of at most n in size the answer is from 2 ^ -(n + 1) to 2 ^ (n + 1). Assumes nothing.
 use Rattle.refusal.specs.declared.Refusal.TheVariants.{OutOfDomain}
 use Rattle.std.specs.Prelude.{Ok, Err}
-use Rattle.std.proofs.Common.{◌≡◌, ℕ, zero, suc, ◌+◌, ◌*◌, ◌/◌, ◌^◌, ◌<◌, ◌≤◌, Bool, true, false, cond, not, ◌&&◌, T, ◌⊎◌, ℤ, pos, negsuc, neg_ℤ, sym, refl, ap, ◌∙◌, subst, inl, inr, true≢false, zero-le, arith, pow_pos, pow_mono}
+use Rattle.std.proofs.Common.{◌≡◌, ℕ, zero, suc, ◌+◌, ◌*◌, ◌/◌, ◌^◌, ◌<◌, ◌≤◌, Bool, true, false, cond, not, ◌&&◌, T, ◌⊎◌, List, get_or, ℤ, pos, negsuc, neg_ℤ, sym, refl, ap, ◌∙◌, subst, inl, inr, true≢false, zero-le, arith, pow_pos, pow_mono}
 use native.Mathlib.Nat.{div-eq_of_lt}
 use lib.Ieee.{Float, nan, inf, fin, binary64, up, down, mul, neg, lt, le, is_nan, of_int, of_bits}
 use lib.Ieee.Bits as bits
@@ -10,7 +10,10 @@ use lib.Ieee.Positive.{between, mul_mono}
 use lib.Ieee.Scale.{finite}
 use Rattle.arith.specs.Bounds.{real, negative, Within, Between, Sign}
 use Rattle.arith.specs.Rounding.{nearest_of, round_of}
-use Rattle.exponential.specs.Exp.{exp_of, scaled_of, horner_of, reduced_of, whole_of, one, log2e}
+use Rattle.exponential.specs.Exp.{exp_of, exp_eight_of, none_above, scaled_of, horner_of, reduced_of, whole_of, one, log2e}
+use Rattle.arith.specs.Lists.{every, list_of}
+use Rattle.arith.specs.Outcome.{value_of}
+use Rattle.arith.proofs.Lists.{each-every}
 use Rattle.arith.proofs.Tests.{is_false, either}
 use Rattle.arith.proofs.Accepted as answers
 use Rattle.arith.proofs.Order as order
@@ -201,3 +204,15 @@ exp-finite x v p e = elim (either (lt x low_end)) [ inl l ↦ far l | inr l ↦ 
 pub exp-accepted : (y : Float) → (y ≡ nan) ⊎ Sign true y → answers.Accepted (exp_of y)
 exp-accepted y (inl e) = (nan, ap exp_of e ∙ exp-nan)
 exp-accepted y (inr h) = let a = exp-nonpositive y h in (a.0, a.1)
+
+-- so are eight of them
+not_above : (y : Float) → (y ≡ nan) ⊎ Sign true y → lt (of_int binary64 (pos 709)) y ≡ false
+unfolding lt of_int
+not_above y (inl e) = rw e
+not_above y (inr h) = is_false (lt (of_int binary64 (pos 709)) y) (λ l. order.lt_not_le (of_int binary64 (pos 709)) y l (order.le_trans y (of_bits binary64 0) (of_int binary64 (pos 709)) h (unfold le of_bits in tt)))
+
+pub eight-accepted : (xs : List Float) → ((p : ℕ) → p < 8 → (get_or xs p nan ≡ nan) ⊎ Sign true (get_or xs p nan)) → exp_eight_of xs ≡ Ok (list_of (λ p. value_of (exp_of (get_or xs p nan))) 8)
+unfolding exp_eight_of none_above
+eight-accepted xs h =
+    let t : ℕ → Bool = λ p. not (lt (of_int binary64 (pos 709)) (get_or xs p nan)) in
+    rw (bits.is_true (every 8 t) (each-every 8 t (λ p l. rw (not_above (get_or xs p nan) (h p l)) tt)))

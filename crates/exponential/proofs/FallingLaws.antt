@@ -1,9 +1,9 @@
 -- exp below 0, by the size of k. Assumes nothing.
-use Rattle.std.proofs.Common.{◌≡◌, ℕ, ◌<◌, ◌≤◌, Bool, true, false, cond, List, get_or, pos, negsuc, sym, refl, ap, ◌∙◌, arith}
+use Rattle.std.proofs.Common.{◌≡◌, ℕ, ◌<◌, ◌≤◌, Bool, true, false, cond, T, List, get_or, pos, negsuc, sym, refl, ap, ◌∙◌, arith}
 use lib.Ieee.{Float, nan, fin, binary64, mul, neg, lt, le, is_nan, of_bits, of_int}
 use lib.Ieee.Bits as bits
 use Rattle.arith.specs.Bounds.{real, Within, Between}
-use Rattle.exponential.specs.Exp.{exp_of, reduced_of, log2e}
+use Rattle.exponential.specs.Exp.{exp_of, reduced_of, scaled_of, log2e}
 use Rattle.exponential.specs.ExpParts.{Falling, size_of, falling_of}
 use Rattle.arith.specs.Lists.{list_of}
 use Rattle.arith.specs.Outcome.{value_of}
@@ -41,10 +41,14 @@ unfolding of_int of_bits neg
 between x f =
     (order.le_of_not_lt x (of_int binary64 (negsuc 707)) (is_real x f) (unfold is_nan in tt) f.1, order.le_trans x (of_bits binary64 0) (of_int binary64 (pos 709)) (order.le_of_lt x (of_bits binary64 0) f.0) (unfold le in tt))
 
-pub falling-exp : (x : Float) → Falling x → falling_of x (size_of x) ≡ value_of (exp_of x)
+-- p × 2^k by the size of k
+pub fallen : (x : Float) (n : ℕ) → n ≡ nearest_of (mul binary64 x log2e) → Within (fin false 709 (pos 0)) x → T (lt x (of_bits binary64 0)) → n ≤ 1022 → falling_of x n ≡ scaled_of x (mul binary64 x log2e)
 unfolding falling_of
+fallen x n e w h l = scaled-neg x _ _ (reduced_of x (neg (of_int binary64 (pos n)))) n e w h l refl refl refl
+
+pub falling-exp : (x : Float) → Falling x → falling_of x (size_of x) ≡ value_of (exp_of x)
 falling-exp x f =
-    scaled-neg x _ _ (reduced_of x (neg (of_int binary64 (pos (size_of x))))) (size_of x) (size-falling x f) (widen (fin false 177 (pos 2)) (fin false 709 (pos 0)) x (unfold le in tt) (falling-within x f)) f.0 (size_small x) refl refl refl
+    fallen x (size_of x) (size-falling x f) (widen (fin false 177 (pos 2)) (fin false 709 (pos 0)) x (unfold le in tt) (falling-within x f)) f.0 (size_small x)
     ∙ ap value_of (sym (accepted x (between x f)))
 
 -- ---- eight of them

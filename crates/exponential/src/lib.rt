@@ -8,7 +8,7 @@ ghost use Rattle.arith.specs.Bounds.{Within};
 ghost use Rattle.arith.specs.Lists.{list_of};
 ghost use Rattle.arith.specs.Outcome.{value_of};
 ghost use Rattle.arith.specs.Rounding.{nearest_of};
-ghost use Rattle.exponential.specs.Exp.{exp_of, horner_of, reduced_of, one};
+ghost use Rattle.exponential.specs.Exp.{exp_of, exp_eight_of, horner_of, none_above, reduced_of, one};
 ghost use Rattle.exponential.specs.ExpParts.{size_of, falling_of};
 
 use refusal::Refusal;
@@ -70,7 +70,7 @@ pub fn exp(x: f64) -> Result<f64, Refusal>
     }
     let n = nearest(x * 1.4426950408889634);
     if x < 0.0 {
-        Ok(horner(reduced(x, -(n as f64))) * power_of_two(1023 - n))
+        Ok(falling(x, n))
     } else {
         Ok(horner(reduced(x, n as f64)) * power_of_two(1023 + n))
     }
@@ -127,11 +127,29 @@ fn settled(x: f64, e: f64) -> f64
     arith::value(exp(x))
 }
 
-// The exponentials of eight floats, side by side; a NaN above 709.
-pub fn exp_eight(x: &[f64; 8]) -> [f64; 8]
+// The exponentials of eight floats; a NaN above 709.
+fn exponentials(x: &[f64; 8]) -> [f64; 8]
     ensures { result ≡ list_of (λ (p : ℕ). value_of (exp_of (slice_index_or x.now p nan))) 8 }
 {
     let n = wholes(x);
     let e = fallings(x, &n);
     std::array::from_fn(|p| settled(x[p], e[p]))
+}
+
+// Whether none of eight floats is above 709.
+fn none_above(x: &[f64; 8]) -> bool
+    ensures { result ≡ none_above x.now }
+{
+    x.iter().all(|v| !(*v > 709.0))
+}
+
+// The exponentials of eight floats, side by side: 11 where one is above 709.
+#[tactic(auto, unfolding(crate::specs::Exp::exp_eight_of))]
+pub fn exp_eight(x: &[f64; 8]) -> Result<[f64; 8], Refusal>
+    ensures { result ≡ exp_eight_of x.now }
+{
+    if !none_above(x) {
+        return Err(Refusal::OutOfDomain);
+    }
+    Ok(exponentials(x))
 }

@@ -40,6 +40,10 @@ one = fit_of (half ∷ []) (float 3 ∷ []) 1 (float 1)
 abbrev pub two : Result Model Refusal
 two = fit_of (float 0 ∷ float 1 ∷ []) (float 1 ∷ float 3 ∷ []) 1 (float 1)
 
+-- the same rows and values without noise
+abbrev pub bare : Result Model Refusal
+bare = fit_of (float 0 ∷ float 1 ∷ []) (float 1 ∷ float 3 ∷ []) 1 (float 0)
+
 abbrev Fitted : Type 0
 Fitted =
     (made (λ m. to_bits binary64 m.f_best) one ≡ Ok 0)
@@ -51,10 +55,15 @@ Fitted =
     × (made (λ m. take 1 m.lengthscales) two ≡ Ok (half ∷ []))
     × (made (λ m. take 2 m.alpha) two ≡ Ok (word 0xbfd85003df3697fe ∷ word 0x3fd85003df369800 ∷ []))
     × (made (λ m. take 3 m.cholesky) two ≡ Ok (word 0x3ff6a09e667f3bcd ∷ word 0x3fb917edfffebf91 ∷ word 0x3ff692b0170012fa ∷ []))
+    -- the rows are in the order in which they were given
+    × (made (λ m. take 2 m.x_train) two ≡ Ok (float 0 ∷ float 1 ∷ []))
+    -- without noise the diagonal of the kernel matrix is 1, so the factor and the weights are others
+    × (made (λ m. take 3 m.cholesky) bare ≡ Ok (float 1 ∷ word 0x3fc1be677c8649e9 ∷ word 0x3fefb0e86aaa839d ∷ []))
+    × (made (λ m. take 2 m.alpha) bare ≡ Ok (word 0xbfea44d646eeedf4 ∷ word 0x3fea44d646eeedf5 ∷ []))
 
 fitted : Fitted
 unfolding fit_of fit_domain fitted_of all_within every covariance_of similarity_of lengthscale_of variance_of mean_of value_deviation_of standard_of least_of_first cholesky_of columns_of rows_of less_of grown solve_of solution_of backward_of matern52_of scaled_root_of decay_of sum_over exp_of horner_of reduced_of scaled_of whole_of nearest_of round_of sqrt_of root_of isqrt of_bits to_bits round add sub mul div neg lt le is_nan of_int
-fitted = (refl, refl, refl, refl, refl, refl, refl, refl)
+fitted = (refl, refl, refl, refl, refl, refl, refl, refl, refl, refl, refl)
 
 abbrev Refused : Type 0
 Refused =

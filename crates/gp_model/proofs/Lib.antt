@@ -1,3 +1,4 @@
 pub mod Cases
 pub mod Domain
+pub mod Similar
 pub mod Table

@@ -6,11 +6,12 @@ ghost use Rattle.gp_model.specs.Kernels.{similarity_of, covariance_of, kernel_ma
 
 use crate::tables::Table;
 
-// The kernel of two points.
-pub fn similarity(x1: &[f64], x2: &[f64], lengthscales: &[f64]) -> f64
+// The kernel of two points of one length.
+fn similarity(x1: &[f64], x2: &[f64], lengthscales: &[f64]) -> f64
+    requires { (length x1.now ≡ length x2.now) × (length x1.now ≡ length lengthscales.now) }
     ensures { result ≡ similarity_of x1.now x2.now lengthscales.now }
 {
-    arith::value(kernel::matern52(x1, x2, lengthscales, 1.0))
+    kernel::matern52(x1, x2, lengthscales, 1.0).unwrap()
 }
 
 // K + σ² I, for the rows of a table.

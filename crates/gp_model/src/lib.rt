@@ -2,12 +2,11 @@
 #![tactic(auto)]
 
 pub mod fitting;
-pub mod kernels;
+mod kernels;
 pub mod statistics;
 mod tables;
 
 pub use fitting::fit_gp;
-pub use kernels::similarity;
 pub use statistics::all_within;
 
 // A fitted model: its n rows of d columns, lengthscales, factor, weights and best value. What lies past the counts is zero.

@@ -38,9 +38,14 @@ decay : (y : Float) → (y ≡ nan) ⊎ Sign false y → (neg (mul binary64 sqrt
 decay y (inl e) = inl (ap (λ (v : Float). neg (mul binary64 sqrt5 v)) e ∙ unfold mul neg of_bits in refl)
 decay y (inr h) = inr (negated _ (scaled y h))
 
+-- the argument of exp
+pub not_above : (r2 : Float) → (neg (scaled_root_of r2) ≡ nan) ⊎ Sign true (neg (scaled_root_of r2))
+unfolding scaled_root_of
+not_above r2 = decay (sqrt_of r2) (root r2)
+
 pub at-accepted : (r2 s : Float) → Accepted (at_of r2 s)
-unfolding scaled_root_of decay_of
-at-accepted r2 s = made-accepted _ _ (exp-accepted _ (decay (sqrt_of r2) (root r2)))
+unfolding decay_of
+at-accepted r2 s = made-accepted _ _ (exp-accepted _ (not_above r2))
 
 pub kernel-accepts : KernelAccepts
 unfolding matern52_of

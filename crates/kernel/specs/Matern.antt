@@ -1,7 +1,7 @@
--- The Matérn kernel for ν = 5/2, Rasmussen and Williams, 4.17, s (1 + √5 r + 5 r²/3) exp(-√5 r), with a lengthscale for each column (their section 5.1). "`matern52` associates as written." Definitions only.
+-- The Matérn kernel for ν = 5/2, Rasmussen and Williams, 4.17, s (1 + √5 r + 5 r²/3) exp(-√5 r), with a lengthscale for each column (their section 5.1). `matern52` "associates as written". Definitions only.
 use Rattle.refusal.specs.declared.Refusal.TheVariants.{OutOfDomain}
 use Rattle.refusal.specs.declared.Refusal.{Refusal}
-use Rattle.std.specs.Prelude.{Bool, ◌&&◌, List, eqb, length, get_or, pos, Float, Result, Ok, Err}
+use Rattle.std.specs.Prelude.{Bool, ◌&&◌, List, eqb, length, get_or, pos, Float, Result, Err}
 use Rattle.std.specs.Float.{nan, binary64}
 use Rattle.std.specs.Float.Ieee.{add, sub, mul, div, neg, of_bits, of_int}
 use Rattle.exponential.specs.Exp.{exp_of}
@@ -41,10 +41,7 @@ decay_of r2 q s = made (λ e. mul binary64 (mul binary64 s (polynomial_of q r2))
 abbrev pub at_of : Float → Float → Result Float Refusal
 at_of r2 s = decay_of r2 (scaled_root_of r2) s
 
--- "lists of unequal length .. are 11", here and below
-unfoldable pub squared_of : List Float → List Float → List Float → Result Float Refusal
-squared_of x1 x2 l = pick (fits x1 x2 l) (Ok (squared_distance_of x1 x2 l)) (Err OutOfDomain)
-
+-- "lists of unequal length .. are 11"
 unfoldable pub matern52_of : List Float → List Float → List Float → Float → Result Float Refusal
 unfolding scaled_root_of decay_of
 matern52_of x1 x2 l s = pick (fits x1 x2 l) (at_of (squared_distance_of x1 x2 l) s) (Err OutOfDomain)

@@ -1,9 +1,9 @@
-// The Matérn kernel, with the Rust's names and constant.
+// The Matérn kernel, with the Rust's name and constant.
 #![tactic(auto)]
 
 ghost use Rattle.std.specs.Prelude.{◌≡◌, length};
 ghost use Rattle.kernel.specs.Accepts.{KernelAccepts};
-ghost use Rattle.kernel.specs.Matern.{squared_distance_of, squared_of, scaled_root_of, decay_of, matern52_of};
+ghost use Rattle.kernel.specs.Matern.{squared_distance_of, scaled_root_of, decay_of, matern52_of};
 
 use refusal::Refusal;
 
@@ -21,17 +21,6 @@ fn distance(x1: &[f64], x2: &[f64], lengthscales: &[f64]) -> f64
     r_sq
 }
 
-// The same of any lists: 11 where they differ in length.
-#[tactic(auto, unfolding(crate::specs::Matern::squared_of))]
-pub fn squared_distance(x1: &[f64], x2: &[f64], lengthscales: &[f64]) -> Result<f64, Refusal>
-    ensures { result ≡ squared_of x1.now x2.now lengthscales.now }
-{
-    if x1.len() != x2.len() || x1.len() != lengthscales.len() {
-        return Err(Refusal::OutOfDomain);
-    }
-    Ok(distance(x1, x2, lengthscales))
-}
-
 // The Rust's SQRT_5 times the root of a squared distance.
 pub fn scaled_root(r_sq: f64) -> f64
     ensures { result ≡ scaled_root_of r_sq }
@@ -40,7 +29,7 @@ pub fn scaled_root(r_sq: f64) -> f64
 }
 
 // The kernel by a squared distance and its scaled root.
-pub fn decay(r_sq: f64, sqrt5_r: f64, signal_var: f64) -> Result<f64, Refusal>
+fn decay(r_sq: f64, sqrt5_r: f64, signal_var: f64) -> Result<f64, Refusal>
     ensures { result ≡ decay_of r_sq sqrt5_r signal_var }
 {
     let e = exponential::exp(-sqrt5_r)?;
@@ -48,7 +37,7 @@ pub fn decay(r_sq: f64, sqrt5_r: f64, signal_var: f64) -> Result<f64, Refusal>
 }
 
 // The kernel of two points: 11 where the lists differ in length.
-#[tactic(auto, unfolding(crate::specs::Matern::squared_of, crate::specs::Matern::matern52_of))]
+#[tactic(auto, unfolding(crate::specs::Matern::matern52_of))]
 pub fn matern52(
     x1: &[f64],
     x2: &[f64],
@@ -57,7 +46,10 @@ pub fn matern52(
 ) -> Result<f64, Refusal>
     ensures { result ≡ matern52_of x1.now x2.now lengthscales.now signal_var }
 {
-    let r_sq = squared_distance(x1, x2, lengthscales)?;
+    if x1.len() != x2.len() || x1.len() != lengthscales.len() {
+        return Err(Refusal::OutOfDomain);
+    }
+    let r_sq = distance(x1, x2, lengthscales);
     decay(r_sq, scaled_root(r_sq), signal_var)
 }
 

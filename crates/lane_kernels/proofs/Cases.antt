@@ -1,13 +1,19 @@
 -- The kernel vectors of eight points at small tables, computed. Assumes nothing.
+use Rattle.std.specs.Prelude.{Ok, Err}
+use Rattle.refusal.specs.declared.Refusal.TheVariants.{OutOfDomain}
 use Prim.Native.Nat.{ℕ}
 use mathlib.Core.Path.{◌≡◌, refl}
 use mathlib.Core.List.{List, [], ◌∷◌}
 use lib.IntN.{pos}
 use lib.ListN.{get_or}
-use lib.Ieee.{Float, binary64, of_int, of_bits, sub, mul, div, round}
-use Rattle.arith.specs.Lists.{grown}
-use Rattle.arith.specs.Outcome.{value_of}
-use Rattle.kernel.specs.Matern.{matern52_of}
+use lib.Ieee.{Float, binary64, of_int, of_bits, add, sub, mul, div, neg, lt, is_nan, round}
+use Rattle.arith.specs.Lists.{grown, list_of}
+use Rattle.arith.specs.Outcome.{made}
+use Rattle.arith.specs.Rounding.{nearest_of, round_of}
+use Rattle.arith.specs.Sums.{sum_over}
+use Rattle.exponential.specs.Exp.{exp_of, horner_of, reduced_of, scaled_of, whole_of}
+use Rattle.root.specs.Sqrt.{isqrt, root_of, sqrt_of}
+use Rattle.kernel.specs.Matern.{matern52_of, scaled_root_of, decay_of}
 use Rattle.lanes.specs.Rows.{eight_of, zero_row}
 use Rattle.lane_kernels.specs.Kernels.{kernel_lanes_of, distance_term}
 
@@ -28,16 +34,16 @@ scales = whole 1 ∷ whole 2 ∷ []
 abbrev Vectors : Type 0
 Vectors =
     -- row 1 of lane 5 is the kernel of the point 5 3 and the row 30 40
-    (get_or (get_or (kernel_lanes_of points table 2 2 scales) 1 []) 5 (whole 0) ≡ value_of (matern52_of (whole 5 ∷ whole 3 ∷ []) (whole 30 ∷ whole 40 ∷ []) scales (whole 1)))
-    × (get_or (get_or (kernel_lanes_of points table 2 2 scales) 0 []) 0 (whole 0) ≡ value_of (matern52_of (whole 0 ∷ whole 3 ∷ []) (whole 10 ∷ whole 20 ∷ []) scales (whole 1)))
-    -- past the rows; a table that is short; a lengthscale too many; over 100 rows
-    × (get_or (kernel_lanes_of points table 2 2 scales) 2 [] ≡ zero_row)
-    × (get_or (kernel_lanes_of points table 3 2 scales) 0 [] ≡ zero_row)
-    × (get_or (kernel_lanes_of points table 2 1 scales) 0 [] ≡ zero_row)
-    × (get_or (kernel_lanes_of points table 101 0 []) 0 [] ≡ zero_row)
+    (made (λ rows. get_or (get_or rows 1 []) 5 (whole 0)) (kernel_lanes_of points table 2 scales) ≡ matern52_of (whole 5 ∷ whole 3 ∷ []) (whole 30 ∷ whole 40 ∷ []) scales (whole 1))
+    × (made (λ rows. get_or (get_or rows 0 []) 0 (whole 0)) (kernel_lanes_of points table 2 scales) ≡ matern52_of (whole 0 ∷ whole 3 ∷ []) (whole 10 ∷ whole 20 ∷ []) scales (whole 1))
+    -- past the rows; a table that is short; over 100 rows; over 20 columns
+    × (made (λ rows. get_or rows 2 []) (kernel_lanes_of points table 2 scales) ≡ Ok zero_row)
+    × (kernel_lanes_of points table 3 scales ≡ Err OutOfDomain)
+    × (kernel_lanes_of points table 101 [] ≡ Err OutOfDomain)
+    × (kernel_lanes_of points table 0 (list_of whole 21) ≡ Err OutOfDomain)
 
 vectors : Vectors
-unfolding kernel_lanes_of grown
+unfolding kernel_lanes_of grown matern52_of scaled_root_of decay_of sum_over exp_of horner_of reduced_of scaled_of whole_of nearest_of round_of sqrt_of root_of isqrt of_bits round add sub mul div neg lt is_nan of_int
 vectors = (refl, refl, refl, refl, refl, refl)
 
 -- column 0 of lane 5 and of row 1: 5 less 30, over 1, squared; column 1 of lane 5 and of row 0: 3 less 20, over 2, squared

@@ -9,6 +9,7 @@ ghost use Rattle.lanes.specs.Rows.{eight_of, rows_of};
 ghost use Rattle.lane_kernels.specs.Kernels.{distance_term, kernel_rows_of, kernel_lanes_of};
 
 use crate::roots;
+use refusal::Refusal;
 
 // s and the squares of the scaled differences of a column, lane by lane.
 #[tactic(auto, using(arith::proofs::Eights::eight_floats))]
@@ -57,7 +58,7 @@ fn decays(r_sq: &[f64; 8]) -> [f64; 8]
 {
     let q = roots::scaled_roots(r_sq);
     let x = negated(&q);
-    let e = exponential::exp_eight(&x);
+    let e = exponential::exp_eight(&x).unwrap();
     polynomials(r_sq, &q, &e)
 }
 
@@ -80,7 +81,7 @@ fn kernel_rows(
     out
 }
 
-// The same: zeros over 100 rows or 20 columns, and where the rows are not all there.
+// The same: 11 over 100 rows or 20 columns, and where the rows are not all there.
 // Kept: n beside x, as in kernel_rows.
 #[tactic(auto, unfolding(crate::specs::Kernels::kernel_lanes_of))]
 pub fn kernel_vectors(
@@ -88,12 +89,12 @@ pub fn kernel_vectors(
     x: &[f64],
     n: usize,
     lengthscales: &[f64],
-) -> [[f64; 8]; 100]
-    ensures { result ≡ kernel_lanes_of points.now x.now n (length lengthscales.now) lengthscales.now }
+) -> Result<[[f64; 8]; 100], Refusal>
+    ensures { result ≡ kernel_lanes_of points.now x.now n lengthscales.now }
 {
     let d = lengthscales.len();
     if n <= 100 && d <= 20 && n * d <= x.len() {
-        return kernel_rows(points, x, n, lengthscales);
+        return Ok(kernel_rows(points, x, n, lengthscales));
     }
-    [[0.0; 8]; 100]
+    Err(Refusal::OutOfDomain)
 }

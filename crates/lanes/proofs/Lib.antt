@@ -1,3 +1,4 @@
+pub mod Accepted
 mod Cases
 pub mod Backward
 pub mod Forward

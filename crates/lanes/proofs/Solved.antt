@@ -1,7 +1,7 @@
 -- Forward, then backward: each lane is the plain solution. Assumes nothing.
-use mathlib.Core.Path.{◌≡◌, sym, ap, ◌∙◌}
-use mathlib.Core.Bool.{cond}
-use mathlib.Core.List.{List, []}
+use Rattle.std.specs.Prelude.{Ok}
+use mathlib.Core.Path.{◌≡◌, sym, ◌∙◌}
+use mathlib.Core.List.{List}
 use Prim.Native.Nat.{ℕ, ◌≤◌, ◌<◌}
 use native.Mathlib.Omega.{arith}
 use borrow.Author.Tests.{le-leb}
@@ -39,6 +39,6 @@ module _ (l : List Float) (b : List (List Float)) (n : ℕ) (top : n ≤ 100) wh
           (sym (padded-at 100 (backward_of l (first p) n n) i (rw (back-length l (first p) n n) h)))
 
   -- up to a hundred rows that is the answer
-  pub answered : rows_of (lanes_of (λ p. backward_of l (lane_of (rows_of (lanes_of first n)) n p) n n) n) ≡ solve_lanes_of l b n
+  pub answered : Ok (rows_of (lanes_of (λ p. backward_of l (lane_of (rows_of (lanes_of first n)) n p) n n) n)) ≡ solve_lanes_of l b n
   unfolding solve_lanes_of
-  answered = ap rows_of solved-lanes ∙ sym (ap (λ t. cond t (rows_of (lanes_of (λ p. solution_of l (lane_of b 100 p) n) n)) (rows_of [])) (le-leb n 100 top))
+  answered = rw (solved-lanes, le-leb n 100 top)

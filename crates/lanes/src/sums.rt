@@ -5,6 +5,8 @@ ghost use Rattle.std.specs.Float.Ieee.{add, mul};
 ghost use Rattle.lanes.specs.Rows.{eight_of};
 ghost use Rattle.lanes.specs.Sums.{dot_lanes_of, dot_each_of};
 
+use refusal::Refusal;
+
 // s and the product of a and b, lane by lane.
 #[tactic(auto, using(arith::proofs::Eights::eight_floats))]
 fn more(s: &[f64; 8], a: &[f64; 8], b: &[f64; 8]) -> [f64; 8]
@@ -13,36 +15,34 @@ fn more(s: &[f64; 8], a: &[f64; 8], b: &[f64; 8]) -> [f64; 8]
     std::array::from_fn(|p| s[p] + a[p] * b[p])
 }
 
-// The dot products of the first n rows of a and b, lane by lane: zeros over 100 rows.
-// Kept: zeros, as dot_each, solve and kernel_vectors of lane_kernels: the search holds its counts in a struct (Lent),
-// and an Option of each would be unwrapped in each turn.
+// The dot products of the first n rows of a and b, lane by lane: 11 over 100 rows.
 #[tactic(auto, unfolding(crate::specs::Sums::dot_lanes_of))]
-pub fn dot(a: &[[f64; 8]; 100], b: &[[f64; 8]; 100], n: usize) -> [f64; 8]
+pub fn dot(a: &[[f64; 8]; 100], b: &[[f64; 8]; 100], n: usize) -> Result<[f64; 8], Refusal>
     ensures { result ≡ dot_lanes_of a.now b.now n }
 {
-    let mut s = [0.0; 8];
     if n > 100 {
-        return s;
+        return Err(Refusal::OutOfDomain);
     }
+    let mut s = [0.0; 8];
     for i in 0..n {
         s = more(&s, &a[i], &b[i]);
     }
-    s
+    Ok(s)
 }
 
-// The dot products of the first n rows of each lane of a and of one list b: zeros over 100 rows, or where b is shorter.
+// The dot products of the first n rows of each lane of a and of one list b: 11 over 100 rows, or where b is shorter.
 // Kept: beside dot's loop; one for both takes a closure for b's rows, a clause that it may be called below n and one
 // that says each row, for a loop of one line.
 #[tactic(auto, unfolding(crate::specs::Sums::dot_each_of))]
-pub fn dot_each(a: &[[f64; 8]; 100], b: &[f64], n: usize) -> [f64; 8]
+pub fn dot_each(a: &[[f64; 8]; 100], b: &[f64], n: usize) -> Result<[f64; 8], Refusal>
     ensures { result ≡ dot_each_of a.now b.now n }
 {
-    let mut s = [0.0; 8];
     if n > 100 || n > b.len() {
-        return s;
+        return Err(Refusal::OutOfDomain);
     }
+    let mut s = [0.0; 8];
     for i in 0..n {
         s = more(&s, &a[i], &[b[i]; 8]);
     }
-    s
+    Ok(s)
 }

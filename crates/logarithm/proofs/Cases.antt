@@ -3,8 +3,8 @@ use mathlib.Core.Path.{◌≡◌, refl}
 use mathlib.Core.Bool.{true, false}
 use lib.IntN.{pos, negsuc}
 use lib.Ieee.{inf, binary64, of_bits, of_int, to_bits, round, add, sub, mul, div, lt}
-use Rattle.refusal.specs.Numbers.{number_of}
-use Rattle.arith.specs.Outcome.{word_of}
+use Rattle.refusal.specs.declared.Refusal.TheVariants.{OutOfDomain}
+use Rattle.std.specs.Prelude.{Ok, Err}
 use Rattle.logarithm.specs.Ln.{whole, field, digits, normal, mantissa_of, exponent_of, series, series_of, halved_of, ln_of}
 
 -- 6 is 1.5 * 2^2 and 0.75 is 1.5 * 2^-1; the least normal float, the one below it, 0, an infinity and -1
@@ -33,11 +33,11 @@ steps = refl
 -- ln of 2, of 1.5, which is halved, of the last float that is not halved and of the next one, and of 0
 abbrev Points : Type 0
 Points =
-    (word_of (ln_of (whole 2)) ≡ 0x3fe62e42fefa39ef)
-    × (word_of (ln_of (of_bits binary64 0x3ff8000000000000)) ≡ 0x3fd9f323ecbf984c)
-    × (word_of (ln_of (of_bits binary64 0x3ff6a09e667f3bcd)) ≡ 0x3fd62e42fefa39f1)
-    × (word_of (ln_of (of_bits binary64 0x3ff6a09e667f3bce)) ≡ 0x3fd62e42fefa39f3)
-    × (number_of (ln_of (whole 0)) ≡ 11)
+    (ln_of (whole 2) ≡ Ok (of_bits binary64 0x3fe62e42fefa39ef))
+    × (ln_of (of_bits binary64 0x3ff8000000000000) ≡ Ok (of_bits binary64 0x3fd9f323ecbf984c))
+    × (ln_of (of_bits binary64 0x3ff6a09e667f3bcd) ≡ Ok (of_bits binary64 0x3fd62e42fefa39f1))
+    × (ln_of (of_bits binary64 0x3ff6a09e667f3bce) ≡ Ok (of_bits binary64 0x3fd62e42fefa39f3))
+    × (ln_of (whole 0) ≡ Err OutOfDomain)
 
 points : Points
 unfolding ln_of halved_of series_of series normal field digits mantissa_of exponent_of of_bits of_int to_bits round add sub mul div lt

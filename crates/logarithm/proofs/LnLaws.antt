@@ -16,7 +16,6 @@ use lib.Ieee.{Float, nan, inf, fin, binary64, add, mul, neg, lt, le, fits, minus
 use lib.Ieee.Bits as bits
 use lib.Ieee.Bits.{of_bits-to_bits}
 use lib.Ieee.Exact.{HasValue}
-use lib.Ieee.Order.{le_of_values}
 use lib.Ieee.Positive.{positive, between, positive-finite, values_of_le}
 use lib.Ieee.Scale.{finite}
 use Rattle.arith.specs.Bounds.{Within, Between}
@@ -28,7 +27,7 @@ use Rattle.arith.proofs.Within.{within, upper, lower, within-finite}
 use Rattle.arith.proofs.Mono.{add_left, mul_left, of_int-mono}
 use Rattle.arith.proofs.Zero.{above_zero}
 use Rattle.arith.proofs.Patterns.{value_of, digits_of, above, finite-bits}
-use Rattle.logarithm.proofs.LnSplit.{split}
+use Rattle.logarithm.proofs.LnSplit.{split, from-one, below-two}
 use Rattle.logarithm.proofs.LnSize.{Near, rest, most, tiny, rest-size, rest_up, rest-down, ln-up, ln-down}
 
 abbrev power : ℤ → Float
@@ -126,14 +125,10 @@ module _ (n : ℕ) (x : Float) (k : ℕ) (N : n ≤ 53) (f : T (fits binary64 x)
   halves = split x k f i.field_is (let h = i.high in omega arith)
 
   pub m-low : T (le (whole 1) (mantissa_of x))
-  m-low =
-      le_of_values (whole 1) (mantissa_of x) 1 1 ((2 ^ 52 + digits x) * 2 ^ 1022) (2 ^ 1074) (pow_pos 0) (pow_pos 1074) (unfold of_int in (refl, refl)) halves.1
-      (le_trans (le_of_eq (let e : 1 * 2 ^ 1074 ≡ 2 ^ 52 * 2 ^ 1022 = refl in e)) (le_trans (mul-le-mul_right (2 ^ 1022) (let g : 2 ^ 52 ≤ 2 ^ 52 + digits x = omega arith in g)) (le_of_eq (sym (mul-one ((2 ^ 52 + digits x) * 2 ^ 1022))))))
+  m-low = from-one (mantissa_of x) (digits x) halves.2 halves.1
 
   pub m-high : T (le (mantissa_of x) (whole 2))
-  m-high =
-      le_of_values (mantissa_of x) (whole 2) ((2 ^ 52 + digits x) * 2 ^ 1022) (2 ^ 1074) 2 1 (pow_pos 1074) (pow_pos 0) halves.1 (unfold of_int in (refl, refl))
-      (le_trans (le_of_eq (mul-one ((2 ^ 52 + digits x) * 2 ^ 1022))) (le_trans (mul-le-mul_right (2 ^ 1022) (let g : 2 ^ 52 + digits x ≤ 2 ^ 53 = let d = halves.2 in omega arith in g)) (le_of_eq (let e : 2 ^ 53 * 2 ^ 1022 ≡ 2 * 2 ^ 1074 = refl in e))))
+  m-high = order.le_of_lt (mantissa_of x) (whole 2) (below-two (mantissa_of x) (digits x) halves.2 halves.1)
 
   pub m-finite : T (finite (mantissa_of x))
   m-finite = positive-finite (mantissa_of x) (between (whole 1) (mantissa_of x) (whole 2) (unfold of_int in tt) (unfold of_int in tt) m-low m-high)

@@ -7,13 +7,13 @@ use Prim.Native.Nat.{ℕ, zero, suc, ◌+◌, ◌-◌, ◌*◌, ◌^◌, ◌≤�
 use native.Mathlib.Nat.{le_trans, le_of_eq, lt_of_not-le, lt_of_le_of_lt, not-le_of_lt, not-suc-le-zero, le_of_suc-le-suc, eq-or-lt_of_le, mul-one, mul_assoc, mul_right_comm, mul-pos, mul-le-mul_right, le_of_mul-le-mul_right, eq_of_mul-eq-mul_right}
 use native.Mathlib.Omega.{arith}
 use mathlib.Core.Bool.{Bool, true, false, ◌&&◌, cond}
-use lib.Dec.{T, eqb, leb, ltb, eqb→eq, leb→le, ltb→lt, lit<, lit≤}
+use lib.Dec.{T, eqb, eqb→eq, lit<, lit≤}
 use lib.Pow.{pow-add, pow_pos, pow_mono, shl_lt}
 use lib.IntN.{pos, negsuc}
 use lib.Ieee.{Float, nan, inf, fin, binary64, up, down, round, add, mul, div, neg, lt, le, fits, minus, is_nan, of_int, of_bits, to_bits}
 use lib.Ieee.Bits.{of_bits-to_bits}
 use lib.Ieee.Exact.{HasValue}
-use lib.Ieee.Fits.{and_l, and_r, add-fits, of_int-fits}
+use lib.Ieee.Fits.{add-fits, of_int-fits}
 use lib.Ieee.Order.{le_of_values}
 use lib.Ieee.Positive.{positive, mul_at, positive_of_value, values_of_le}
 use lib.Ieee.Scale.{finite}
@@ -27,7 +27,7 @@ use Rattle.arith.proofs.Order as order
 use Rattle.arith.proofs.Order.{LeS}
 use Rattle.arith.proofs.Mono.{add_left, add_right}
 use Rattle.logarithm.proofs.LnSize.{s-of}
-use Rattle.logarithm.proofs.LnSplit.{split}
+use Rattle.logarithm.proofs.LnSplit.{split, field_in}
 use Rattle.arith.specs.Lists.{every}
 use Rattle.arith.proofs.Lists.{every-each}
 use Rattle.logarithm.proofs.LnTerm.{exact, product, Off, edge, Range, term, term_is, term-mono}
@@ -306,14 +306,6 @@ opened x v = go (normal x) (halved_of (mantissa_of x) (of_int binary64 (exponent
     go : (b : Bool) (y : Float) → pick b (Ok y) (Err OutOfDomain) ≡ Ok v → T b × (v ≡ y)
     go true y e = (tt, cc)
     go false y e = absurd (let z : 11 ≡ 0 = ap number_of e in omega arith)
-
-field_in : (x : Float) → T (normal x) → (1 ≤ field x) × (field x < 2047)
-unfolding normal
-field_in x t =
-    let a = leb 1 (field x) in
-    let b = ltb (field x) 2047 in
-    let u = and_r (lt (of_bits binary64 0) x) (a && b) t in
-    (leb→le 1 (field x) (and_l a b u), ltb→lt (field x) 2047 (and_r a b u))
 
 abbrev first : Float
 first = fin false 1 (negsuc 52)

@@ -1,1 +1,2 @@
 pub mod Ln
+pub mod Split

@@ -22,7 +22,7 @@ unfoldable pub normal : Float → Bool
 unfolding field
 normal x = lt (of_bits binary64 0) x && (leb 1 (field x) && ltb (field x) 2047)
 
--- "x = m × 2^e, 1 ≤ m < 2": the same digits with the field of 1, and how far the fields are apart (proofs/LnSplit.antt shows that they are these)
+-- "x = m × 2^e, 1 ≤ m < 2": the same digits with the field of 1, and how far the fields are apart (specs/Split states that they are these)
 unfoldable pub mantissa_of : Float → Float
 unfolding digits
 mantissa_of x = of_bits binary64 (0x3ff0000000000000 + digits x)

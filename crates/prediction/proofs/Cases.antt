@@ -20,7 +20,7 @@ use Rattle.kernel.specs.Matern.{scaled_root_of, decay_of, matern52_of}
 use Rattle.gp_model.specs.Fit.{fit_domain, fitted_of, fit_of}
 use Rattle.gp_model.specs.Kernels.{covariance_of, similarity_of}
 use Rattle.gp_model.specs.Statistics.{all_within, lengthscale_of, mean_of, standard_of, value_deviation_of, variance_of}
-use Rattle.gp_model.proofs.Cases.{float, one, two}
+use Rattle.gp_model.proofs.Cases.{bare, float, one, two}
 use Rattle.prediction.specs.Predict.{counts_fit, posterior_mean_of, posterior_std_of, predict_of}
 
 -- ---- predictions at 1, by the models of gp_model/proofs/Cases
@@ -32,9 +32,12 @@ Predicted =
     (made (λ p. to_bits binary64 p.mean) (at_one two) ≡ Ok 0x3fd4f138edc7df9a)
     × (made (λ p. to_bits binary64 p.std) (at_one two) ≡ Ok 0x3fe6929eda77b03f)
     × (made (λ p. p.std) (at_one one) ≡ Ok (float 1))
+    -- without noise it is a row's value, with no deviation
+    × (made (λ p. to_bits binary64 p.mean) (at_one bare) ≡ Ok 0x3fe6a09e667f3bcd)
+    × (made (λ p. p.std) (at_one bare) ≡ Ok (float 0))
     -- a point of two columns
     × (and_then two (λ m. predict_of m (float 1 ∷ float 1 ∷ [])) ≡ Err OutOfDomain)
 
 predicted : Predicted
 unfolding predict_of counts_fit posterior_mean_of posterior_std_of fit_of fit_domain fitted_of all_within every covariance_of similarity_of lengthscale_of variance_of mean_of value_deviation_of standard_of cholesky_of columns_of rows_of less_of grown solve_of solution_of backward_of matern52_of scaled_root_of decay_of sum_over exp_of horner_of reduced_of scaled_of whole_of nearest_of round_of sqrt_of root_of isqrt of_bits to_bits round add sub mul div neg lt le is_nan of_int
-predicted = (refl, refl, refl, refl)
+predicted = (refl, refl, refl, refl, refl, refl)

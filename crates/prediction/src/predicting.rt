@@ -11,7 +11,7 @@ use refusal::Refusal;
 // The kernel of a point and each of the first n rows of a table of its columns.
 #[tactic(auto, unfolding(arith::specs::Lists::grown))]
 fn kernel_vector(x: &[f64], n: usize, lengthscales: &[f64], p: &[f64]) -> [f64; 100]
-    requires { (n ≤ 100) × (n * length p.now ≤ length x.now) }
+    requires { (n ≤ 100) × (n * length p.now ≤ length x.now) × (length p.now ≡ length lengthscales.now) }
     ensures { result ≡ padded 100 (kernel_vector_of x.now n (length p.now) lengthscales.now p.now) }
 {
     let d = p.len();
@@ -19,7 +19,7 @@ fn kernel_vector(x: &[f64], n: usize, lengthscales: &[f64], p: &[f64]) -> [f64; 
     for i in 0..n {
         let start = i * d;
         let end = start + d;
-        out[i] = gp_model::similarity(p, &x[start..end], lengthscales);
+        out[i] = kernel::matern52(p, &x[start..end], lengthscales, 1.0).unwrap();
     }
     out
 }

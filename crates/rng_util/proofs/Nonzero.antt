@@ -12,10 +12,7 @@ use Rattle.std.specs.Prelude.{Float, Ok}
 use Rattle.rng_util.specs.declared.Draw.{Draw}
 use Rattle.rng_util.specs.Draws.{unit_of, word_draw_of, unit_draw_of}
 use Rattle.rng_util.specs.Generator.{xor_left, xor_right, next_of, moved_of}
-
--- a generator word that no draw refuses
-abbrev pub Nonzero : ℕ → Type 0
-Nonzero w = (0 < w) × (w < 2 ^ 64)
+pub use Rattle.rng_util.specs.Generator.{Nonzero}
 
 -- the test that the draws make
 pub nonzero-test : (w : ℕ) → Nonzero w → eqb w 0 ≡ false

@@ -1,5 +1,5 @@
 -- The generator: document 01, "one word, lent to a draw and moved on there".
-use Rattle.std.specs.Prelude.{ℕ, zero, suc, ◌*◌, ◌/◌, ◌%◌, ◌^◌, List, [], ◌∷◌}
+use Rattle.std.specs.Prelude.{ℕ, zero, suc, ◌*◌, ◌/◌, ◌%◌, ◌^◌, ◌<◌, List, [], ◌∷◌}
 use Rattle.std.specs.Int.Bits.{bit_xor}
 
 -- x exclusive-or itself shifted left by k, in 64 bits
@@ -24,3 +24,7 @@ moved_of (suc n) w = next_of (moved_of n w)
 unfoldable pub stream_of : ℕ → ℕ → List ℕ
 stream_of zero w = []
 stream_of (suc n) w = next_of w ∷ stream_of n (next_of w)
+
+-- a word of 64 bits that is not zero: no draw refuses it
+abbrev pub Nonzero : ℕ → Type 0
+Nonzero w = (0 < w) × (w < 2 ^ 64)

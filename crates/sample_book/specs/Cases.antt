@@ -1,12 +1,12 @@
 -- Document 01's sample book, as facts of the definitions. Definitions and statements only.
-use Rattle.std.specs.Prelude.{◌≡◌, false, ℤ, pos, negsuc, [], ◌∷◌, Some, None, Ok, cond}
+use Rattle.std.specs.Prelude.{◌≡◌, ℕ, false, ℤ, pos, negsuc, [], ◌∷◌, Some, None, Result, Ok, cond}
+use Rattle.refusal.specs.declared.Refusal.{Refusal}
 use Rattle.std.specs.Int.Signed.{lt_z}
 use Rattle.std.specs.Float.{binary64}
-use Rattle.std.specs.Float.Ieee.{of_bits, of_int, to_bits}
+use Rattle.std.specs.Float.Ieee.{of_bits, of_int}
 use Rattle.exponential.specs.Exp.{exp_of}
 use Rattle.logarithm.specs.Ln.{ln_of}
 use Rattle.arith.specs.Lists.{filled}
-use Rattle.arith.specs.Outcome.{word_of, made}
 use Rattle.root.specs.Sqrt.{sqrt_of}
 use Rattle.distribution.specs.declared.Distribution.{Distribution}
 use Rattle.distribution.specs.declared.ParamValue.{ParamValue}
@@ -24,20 +24,20 @@ use Rattle.rng_util.specs.Generator.{stream_of}
 abbrev pub ints : ℤ → ℤ → ℤ → Distribution
 ints low high step = Distribution.Int (record { low = low; high = high; log_scale = false; step = cond (lt_z (pos 0) step) (Some step) None })
 
--- what is drawn
-abbrev value : {A : Type 0} → Draw A → A
-value d = d.value
+-- a value by one word, and the generator's word after it
+abbrev drawn : {A : Type 0} → A → ℕ → Result (Draw A) Refusal
+drawn v next = Ok (record { value = v; drawn = 1; next = next })
 
 pub record SampleBook : Type 0 where
   -- (a) words from 1: 40822041, 100041060c011441 hexadecimal
   pub a : stream_of 2 1 ≡ 0x40822041 ∷ 0x100041060c011441 ∷ []
   -- (b) first word among 5 choices gives 1
-  pub b : made value (whole_draw_of 1 (pos 0) (pos 4)) ≡ Ok (pos 1)
+  pub b : whole_draw_of 1 (pos 0) (pos 4) ≡ drawn (pos 1) 0x40822041
   -- (c) the second in 0..=9 gives 5
-  pub c : made value (whole_draw_of 0x40822041 (pos 0) (pos 9)) ≡ Ok (pos 5)
+  pub c : whole_draw_of 0x40822041 (pos 0) (pos 9) ≡ drawn (pos 5) 0x100041060c011441
   -- (b) and (c) again, as values of a choice and of an int
-  pub b-choice : made value (sample_random_of 1 (Distribution.Categorical (record { n_choices = 5 }))) ≡ Ok (ParamValue.Categorical 1)
-  pub c-int : made value (sample_random_of 0x40822041 (ints (pos 0) (pos 9) (pos 0))) ≡ Ok (ParamValue.Int (pos 5))
+  pub b-choice : sample_random_of 1 (Distribution.Categorical (record { n_choices = 5 })) ≡ drawn (ParamValue.Categorical 1) 0x40822041
+  pub c-int : sample_random_of 0x40822041 (ints (pos 0) (pos 9) (pos 0)) ≡ drawn (ParamValue.Int (pos 5)) 0x100041060c011441
   -- (d) int 10..20 step 4 decodes 16 to 18
   pub d : from_internal_of (of_int binary64 (pos 16)) (ints (pos 10) (pos 20) (pos 4)) ≡ Ok (ParamValue.Int (pos 18))
   -- (e) 21 to 20, off the grid
@@ -45,11 +45,11 @@ pub record SampleBook : Type 0 where
   -- (f) int −5..5 decodes −2.5 to −3
   pub f : from_internal_of (of_bits binary64 0xc004000000000000) (ints (negsuc 4) (pos 5) (pos 0)) ≡ Ok (ParamValue.Int (negsuc 2))
   -- (g) sqrt(2) = 3ff6a09e667f3bcd
-  pub g : to_bits binary64 (sqrt_of (of_bits binary64 0x4000000000000000)) ≡ 0x3ff6a09e667f3bcd
+  pub g : sqrt_of (of_bits binary64 0x4000000000000000) ≡ of_bits binary64 0x3ff6a09e667f3bcd
   -- (h) exp(0) = 1
-  pub h : word_of (exp_of (of_bits binary64 0)) ≡ 0x3ff0000000000000
+  pub h : exp_of (of_bits binary64 0) ≡ Ok (of_int binary64 (pos 1))
   -- (i) ln(1) = 0
-  pub i : word_of (ln_of (of_bits binary64 0x3ff0000000000000)) ≡ 0
+  pub i : ln_of (of_int binary64 (pos 1)) ≡ Ok (of_bits binary64 0)
   -- (j) Φ(8.5) = 1
   pub j : norm_cdf_of (of_bits binary64 0x4021000000000000) ≡ Ok (of_int binary64 (pos 1))
   -- (k) mean 2, std 0: best 3 gives 1

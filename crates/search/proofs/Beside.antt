@@ -12,7 +12,8 @@ use Rattle.lanes.specs.Rows.{cell, eight_of, lane_of, zero_row}
 use Rattle.lanes.proofs.Rows.{eight-at}
 use Rattle.rng_util.specs.Draws.{unit_of}
 use Rattle.rng_util.specs.Generator.{moved_of}
-use Rattle.rng_util.proofs.Nonzero.{Nonzero, moved-nonzero}
+use Rattle.rng_util.specs.Generator.{Nonzero}
+use Rattle.rng_util.proofs.Nonzero.{moved-nonzero}
 use Rattle.rng_util.proofs.Stream.{moved-add}
 use Rattle.search.specs.declared.Column.{Column}
 use Rattle.gp_model.specs.declared.Model.{Model}

@@ -1,11 +1,12 @@
 -- The scores of eight points side by side: each lane's is the plain score of its point. Assumes nothing.
+use Rattle.std.specs.Prelude.{Ok}
 use mathlib.Core.Path.{◌≡◌, refl, sym, ap, ◌∙◌}
 use mathlib.Core.Logic.{inl, inr}
 use mathlib.Core.List.{List}
 use Prim.Native.Nat.{ℕ, ◌-◌, ◌*◌, ◌≤◌, ◌<◌}
 use native.Mathlib.Nat.{eq-zero-or-pos}
 use native.Mathlib.Omega.{arith}
-use borrow.Author.Tests.{le-leb, eq-eqb}
+use borrow.Author.Tests.{le-leb}
 use lib.IntN.{pos}
 use lib.ListN.{length, get_or, take, get_or-replicate}
 use lib.Seq.{ext_get_or, get_or-take, length-take-le}
@@ -20,8 +21,8 @@ use Rattle.arith.proofs.Lists.{grown-at, grown-length, padded-at, padded-length,
 use Rattle.factor.specs.Solve.{solution_of}
 use Rattle.lane_kernels.specs.Kernels.{kernel_rows_of, kernel_lanes_of}
 use Rattle.lanes.specs.Rows.{cell, eight_of, lane_of, lanes_of, rows_of}
-use Rattle.lanes.specs.Solving.{solve_lanes_of}
-use Rattle.lanes.specs.Sums.{dot_lanes_of, dot_each_of}
+use Rattle.lanes.specs.Solving.{solutions_of}
+use Rattle.lanes.specs.Sums.{dots_of, dots_each_of}
 use Rattle.lane_kernels.proofs.KernelRow.{sum_same}
 use Rattle.lanes.proofs.Rows.{eight-at, eight-same, lanes_at, row_at, row-past}
 use Rattle.gp_model.specs.Kernels.{row_of, similarity_of}
@@ -35,7 +36,7 @@ products-take xs ys n e = rw e (sum_same n _ _ (λ i h. rw (get_or-take n ys i n
 module _ (x ls chol alpha : List Float) (best : Float) (n d : ℕ) (c : List (List Float)) (top : n ≤ 100) (wide : d ≤ 20) (rows : n * d ≤ length x) (scales : d ≤ length ls) (weights : n ≤ length alpha) where
   -- the kernel vectors side by side, and point p's alone
   abbrev beside : List (List Float)
-  beside = kernel_lanes_of c x n d (take d ls)
+  beside = rows_of (kernel_rows_of c x n d (take d ls))
 
   abbrev alone : ℕ → List Float
   alone p = kernel_vector_of x n d (take d ls) (lane_of c d p)
@@ -43,19 +44,18 @@ module _ (x ls chol alpha : List Float) (best : Float) (n d : ℕ) (c : List (Li
   alone-length : (p : ℕ) → length (alone p) ≡ n
   alone-length p = grown-length (λ xs i. similarity_of (lane_of c d p) (row_of x d i) (take d ls)) n
 
-  beside-rows : beside ≡ rows_of (kernel_rows_of c x n d (take d ls))
+  pub beside-known : kernel_lanes_of c x n (take d ls) ≡ Ok beside
   unfolding kernel_lanes_of
-  beside-rows = rw (le-leb n 100 top, le-leb d 20 wide, le-leb (n * d) (length x) rows, eq-eqb (length (take d ls)) d (length-take-le d ls scales))
+  beside-known = rw (length-take-le d ls scales, le-leb n 100 top, le-leb d 20 wide, le-leb (n * d) (length x) rows)
 
   kernel-cell : (i p : ℕ) → i < n → p < 8 → cell beside i p ≡ get_or (alone p) i nan
   unfolding similarity_of
-  kernel-cell i p h g = rw beside-rows (eight-at _ (row_at _ n i h) p g ∙ sym (grown-at (λ xs i. similarity_of (lane_of c d p) (row_of x d i) (take d ls)) n i h))
+  kernel-cell i p h g = eight-at _ (row_at _ n i h) p g ∙ sym (grown-at (λ xs i. similarity_of (lane_of c d p) (row_of x d i) (take d ls)) n i h)
 
   kernel-past : (i p : ℕ) → n ≤ i → i < 100 → p < 8 → cell beside i p ≡ of_bits binary64 0
   kernel-past i p h t g =
-      rw beside-rows
-      (ap (λ (r : List Float). get_or r p nan) (row-past (kernel_rows_of c x n d (take d ls)) i (rw (grown-length _ n) h) t)
-      ∙ get_or-replicate 8 p (of_bits binary64 0) nan g)
+      ap (λ (r : List Float). get_or r p nan) (row-past (kernel_rows_of c x n d (take d ls)) i (rw (grown-length _ n) h) t)
+      ∙ get_or-replicate 8 p (of_bits binary64 0) nan g
 
   kernel-lane : (p : ℕ) → p < 8 → lane_of beside 100 p ≡ padded 100 (alone p)
   kernel-lane p g =
@@ -68,26 +68,23 @@ module _ (x ls chol alpha : List Float) (best : Float) (n d : ℕ) (c : List (Li
         | inr z ↦ (let l : i < n = omega arith in kernel-cell i p l g ∙ sym (padded-at 100 (alone p) i (rw (alone-length p) l)))
       ])
 
-  mean-lane : (p : ℕ) → p < 8 → get_or (dot_each_of beside alpha n) p nan ≡ posterior_mean_of alpha n (alone p)
-  unfolding dot_each_of posterior_mean_of
+  mean-lane : (p : ℕ) → p < 8 → get_or (dots_each_of beside alpha n) p nan ≡ posterior_mean_of alpha n (alone p)
+  unfolding posterior_mean_of
   mean-lane p g =
-      rw (le-leb n 100 top, le-leb n (length alpha) weights)
-      (eight-at (λ q. sum_over n (λ i. mul binary64 (cell beside i q) (get_or alpha i nan))) refl p g
+      eight-at (λ q. sum_over n (λ i. mul binary64 (cell beside i q) (get_or alpha i nan))) refl p g
       ∙ sum_same n _ _ (λ i h. rw (kernel-cell i p h g))
-      ∙ sym (products-take (alone p) alpha n (alone-length p)))
+      ∙ sym (products-take (alone p) alpha n (alone-length p))
 
-  product-lane : (p : ℕ) → p < 8 → get_or (dot_lanes_of beside (solve_lanes_of chol beside n) n) p nan ≡ products (alone p) (take n (solution_of chol (padded 100 (alone p)) n))
-  unfolding dot_lanes_of solve_lanes_of
+  product-lane : (p : ℕ) → p < 8 → get_or (dots_of beside (solutions_of chol beside n) n) p nan ≡ products (alone p) (take n (solution_of chol (padded 100 (alone p)) n))
   product-lane p g =
       let v = solution_of chol (padded 100 (alone p)) n in
       let solved : (i : ℕ) → i < n → cell (rows_of (lanes_of (λ q. solution_of chol (lane_of beside 100 q) n) n)) i p ≡ get_or v i nan =
       (λ i h. lanes_at (λ q. solution_of chol (lane_of beside 100 q) n) n i p h g ∙ ap (λ (b : List Float). get_or (solution_of chol b n) i nan) (kernel-lane p g)) in
-      rw (le-leb n 100 top)
-      (eight-at (λ q. sum_over n (λ i. mul binary64 (cell beside i q) (cell (rows_of (lanes_of (λ q. solution_of chol (lane_of beside 100 q) n) n)) i q))) refl p g
+      eight-at (λ q. sum_over n (λ i. mul binary64 (cell beside i q) (cell (rows_of (lanes_of (λ q. solution_of chol (lane_of beside 100 q) n) n)) i q))) refl p g
       ∙ sum_same n _ (λ i. mul binary64 (get_or (alone p) i nan) (get_or v i nan)) (λ i h. rw (kernel-cell i p h g, solved i h))
-      ∙ sym (products-take (alone p) v n (alone-length p)))
+      ∙ sym (products-take (alone p) v n (alone-length p))
 
-  pub score-lanes : eight_of (λ p. value_of (expected_improvement_of (get_or (dot_each_of beside alpha n) p nan) (sqrt_of (positive_part (sub binary64 (of_int binary64 (pos 1)) (get_or (dot_lanes_of beside (solve_lanes_of chol beside n) n) p nan)))) best))
+  pub score-lanes : eight_of (λ p. value_of (expected_improvement_of (get_or (dots_each_of beside alpha n) p nan) (sqrt_of (positive_part (sub binary64 (of_int binary64 (pos 1)) (get_or (dots_of beside (solutions_of chol beside n) n) p nan)))) best))
       ≡ eight_of (λ p. score_of (parts_of x ls chol alpha best n d) (lane_of c d p))
   unfolding score_of posterior_std_of
   score-lanes = eight-same _ _ (λ p g. rw (mean-lane p g, product-lane p g))

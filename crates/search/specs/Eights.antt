@@ -5,7 +5,7 @@ use Rattle.arith.specs.Lists.{list_of, filled}
 use Rattle.lanes.specs.Rows.{eight_of, zero_row}
 use Rattle.rng_util.specs.Draws.{unit_of}
 use Rattle.rng_util.specs.Generator.{moved_of}
-use Rattle.rng_util.proofs.Nonzero.{Nonzero}
+use Rattle.rng_util.specs.Generator.{Nonzero}
 use Rattle.search.specs.declared.Column.{Column}
 use Rattle.search.specs.declared.Search.{Search}
 use Rattle.search.specs.declared.Starts.{Starts}

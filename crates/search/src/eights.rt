@@ -7,7 +7,7 @@ ghost use Rattle.arith.specs.Choice.{positive_part};
 ghost use Rattle.arith.specs.Outcome.{value_of};
 ghost use Rattle.root.specs.Sqrt.{sqrt_of};
 ghost use Rattle.lanes.specs.Rows.{eight_of, lane_of};
-ghost use Rattle.rng_util.proofs.Nonzero.{Nonzero};
+ghost use Rattle.rng_util.specs.Generator.{Nonzero};
 ghost use Rattle.search.specs.Eights.{Words, starts_of, column_of, points_of, kept_each_of};
 ghost use Rattle.search.specs.Lent.{model_of};
 ghost use Rattle.search.specs.Search.{point_of, score_of, kept_of, advance_of};
@@ -73,10 +73,11 @@ fn improvements(means: &[f64; 8], products: &[f64; 8], f_best: f64) -> [f64; 8]
 fn scores(m: Lent, points: &[[f64; 8]; 20]) -> [f64; 8]
     ensures { result ≡ eight_of (λ (p : ℕ). score_of (model_of m.entry) (lane_of points.now m.entry.d p)) }
 {
-    let k = lane_kernels::kernel_vectors(points, m.x_train, m.n, &m.lengthscales[..m.d]);
-    let means = lanes::dot_each(&k, m.alpha, m.n);
-    let v = lanes::solve(m.cholesky, &k, m.n);
-    let products = lanes::dot(&k, &v, m.n);
+    let lengthscales = &m.lengthscales[..m.d];
+    let k = lane_kernels::kernel_vectors(points, m.x_train, m.n, lengthscales).unwrap();
+    let means = lanes::dot_each(&k, m.alpha, m.n).unwrap();
+    let v = lanes::solve(m.cholesky, &k, m.n).unwrap();
+    let products = lanes::dot(&k, &v, m.n).unwrap();
     improvements(&means, &products, m.f_best)
 }
 

@@ -3,7 +3,7 @@ ghost use Rattle.std.specs.Prelude.{◌≡◌, Ok, replicate, ◌≤◌, ◌<◌
 ghost use Rattle.std.specs.Float.{binary64};
 ghost use Rattle.std.specs.Float.Ieee.{of_bits};
 ghost use Rattle.arith.specs.Lists.{padded};
-ghost use Rattle.rng_util.proofs.Nonzero.{Nonzero};
+ghost use Rattle.rng_util.specs.Generator.{Nonzero};
 ghost use Rattle.search.specs.declared.Candidate.{Candidate};
 ghost use Rattle.search.specs.Earliest.{Earliest};
 ghost use Rattle.search.specs.Lent.{model_of};

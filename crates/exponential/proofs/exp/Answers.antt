@@ -8,7 +8,8 @@ use Rattle.exponential.specs.Exp.{exp_of, scaled_of, log2e}
 use Rattle.arith.proofs.Tests.{taken, untaken, either}
 use Rattle.arith.proofs.Within.{widen}
 use Rattle.arith.proofs.WordFacts.{is-nan}
-use Rattle.exponential.proofs.ExpRange.{below-zero, from_zero, k-neg, k-pos, asked-neg, asked-pos, scaled-neg, scaled-pos}
+use Rattle.exponential.proofs.ExpRange.{below-zero, from_zero, k-neg, k-pos, asked-neg, asked-pos, scaled-pos}
+use Rattle.exponential.proofs.FallingLaws.{fallen}
 use Rattle.exponential.proofs.exp.Goals as goal
 use Rattle.exponential.proofs.exp.Goals.{Else-is_nan, Else-x-2, Else-x-3, Then-x-3}
 
@@ -71,23 +72,17 @@ few : (n : ℕ) → n ≤ 1023 → T (in_float binary64 (pos n))
 unfolding in_float
 few n h = le→leb n 9007199254740992 (omega arith)
 
+pub falling-requires : goal.falling-requires
+falling-requires c = at-neg (goal.at.falling-requires c).Then-x-3
+
 pub int_to_float-n : goal.int_to_float-n
-int_to_float-n c = few c.nearest-n.result (omega (arith, at-neg (goal.at.int_to_float-n c).Then-x-3))
-
-pub overflow_sub-n : goal.overflow_sub-n
-overflow_sub-n c = omega (arith, at-neg (goal.at.overflow_sub-n c).Then-x-3)
-
-pub power_of_two-requires : goal.power_of_two-requires
-power_of_two-requires c = omega (arith, at-neg (goal.at.power_of_two-requires c).Then-x-3)
-
-pub int_to_float-n-else-x-3 : goal.int_to_float-n-else-x-3
-int_to_float-n-else-x-3 c = few c.nearest-n.result (at-pos (goal.at.int_to_float-n-else-x-3 c).Else-x-3)
+int_to_float-n c = few c.nearest-n.result (at-pos (goal.at.int_to_float-n c).Else-x-3)
 
 pub overflow_add-n : goal.overflow_add-n
 overflow_add-n c = omega (arith, at-pos (goal.at.overflow_add-n c).Else-x-3)
 
-pub power_of_two-requires-else-x-3 : goal.power_of_two-requires-else-x-3
-power_of_two-requires-else-x-3 c = omega (arith, at-pos (goal.at.power_of_two-requires-else-x-3 c).Else-x-3)
+pub power_of_two-requires : goal.power_of_two-requires
+power_of_two-requires c = omega (arith, at-pos (goal.at.power_of_two-requires c).Else-x-3)
 
 middle : (c : Else-x-2) → Ok (scaled_of (arg c) (mul binary64 (arg c) log2e)) ≡ exp_of (arg c)
 middle c = at-middle (arg c) (real c) c.if-x.false c.if-x-2.false
@@ -102,12 +97,12 @@ pub returns-then-x-3 : goal.returns-then-x-3
 returns-then-x-3 c =
     let x = arg (goal.at.returns-then-x-3 c).Else-x-2 in
     let w = widened x (neg-range (goal.at.returns-then-x-3 c).Else-x-2 (taken c.if-x-3.true)) in
-    ap Ok (scaled-neg x _ _ _ c.nearest-n.result c.nearest-n.ensures w (taken c.if-x-3.true) (at-neg (goal.at.returns-then-x-3 c).Then-x-3) c.horner.ensures c.reduced.ensures c.power_of_two.ensures)
+    ap Ok (c.falling.ensures ∙ fallen x c.nearest-n.result c.nearest-n.ensures w (taken c.if-x-3.true) (at-neg (goal.at.returns-then-x-3 c).Then-x-3))
     ∙ middle (goal.at.returns-then-x-3 c).Else-x-2
 
 pub returns-else-x-3 : goal.returns-else-x-3
 returns-else-x-3 c =
     let x = arg (goal.at.returns-else-x-3 c).Else-x-2 in
     let w = pos-range (goal.at.returns-else-x-3 c).Else-x-2 (untaken c.if-x-3.false) in
-    ap Ok (scaled-pos x _ _ _ c.nearest-n.result c.nearest-n.ensures (held (goal.at.returns-else-x-3 c).Else-x-2) w (untaken c.if-x-3.false) c.horner-else-x-3.ensures c.reduced-else-x-3.ensures c.power_of_two-else-x-3.ensures)
+    ap Ok (scaled-pos x _ _ _ c.nearest-n.result c.nearest-n.ensures (held (goal.at.returns-else-x-3 c).Else-x-2) w (untaken c.if-x-3.false) c.horner.ensures c.reduced.ensures c.power_of_two.ensures)
     ∙ middle (goal.at.returns-else-x-3 c).Else-x-2

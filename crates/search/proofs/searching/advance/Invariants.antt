@@ -1,7 +1,7 @@
 -- Before each turn s is the start advanced by eight candidates a turn.
 use Prim.Native.Nat.{◌*◌}
 use mathlib.Core.Path.{◌≡◌}
-use Rattle.rng_util.proofs.Nonzero.{Nonzero}
+use Rattle.rng_util.specs.Generator.{Nonzero}
 use Rattle.search.specs.Lent.{model_of}
 use Rattle.search.specs.Search.{advance_of}
 use Rattle.search.proofs.searching.advance.Given as goal
