@@ -81,7 +81,7 @@ module _ (n : ℕ) (a b : List ℕ) (p : RowsAgree n a b) where
   order = back-order (λ s. slot_at a s) (λ s. slot_at b s) n p.slots
 
   -- a test of each slot
-  each-slot : (t : List ℕ → Bool) → every n (λ s. t (slot_at a s)) ≡ every n (λ s. t (slot_at b s))
+  pub each-slot : (t : List ℕ → Bool) → every n (λ s. t (slot_at a s)) ≡ every n (λ s. t (slot_at b s))
   each-slot t = every-order (λ s. slot_at a s) (λ s. slot_at b s) n p.slots t
 
   pub row_same : row_ok a ≡ row_ok b

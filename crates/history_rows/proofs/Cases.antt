@@ -18,7 +18,7 @@ use Rattle.history_rows.specs.Tests.{row_ok, slots_ok, ids_once, rows_agreeing, 
 use Rattle.slots.specs.Slot.{slot_read, slot_ok, agreeing}
 use Rattle.refusal.specs.declared.Refusal.TheVariants.{BrokenRows, Objective, Slot, RepeatedId, UnequalId, OutOfDomain}
 use Rattle.std.specs.Prelude.{Ok, Err, Some, None}
-use Rattle.history_rows.proofs.Samples.{slot, absent, row}
+use Rattle.history_rows.proofs.Samples.{slot, absent, row, rows}
 
 abbrev Numbers : Type 0
 Numbers =
@@ -45,11 +45,6 @@ Numbers =
 numbers : Numbers
 unfolding check_of recent_tests whole_rows row_count recent_count recent_of row_ok slot_read slot_ok agreeing slots_ok ids_once rows_agreeing every equal_of shape_of float_step taken_of value_of float_taken int_taken read_of checked_of of_bits neg le lt eq
 numbers = (refl, refl, refl, refl, refl, refl, refl, refl, refl, refl, refl, refl, refl)
-
--- that many good rows
-abbrev rows : ℕ → List ℕ
-rows zero = []
-rows (suc n) = row 0 absent ++ rows n
 
 -- a bad state in the first of 101 rows is not read, in the first of 100 it is
 abbrev Older : Type 0

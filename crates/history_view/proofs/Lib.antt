@@ -1,4 +1,5 @@
 mod Cases
+pub mod Generous
 pub mod Order
 pub mod Usable
 pub mod Values

@@ -25,6 +25,7 @@ use Rattle.param_mapping.specs.Mapping.{mapped_of, asked_of, mapping_of}
 use Rattle.history.specs.Training.{trains_of, column_of, kept_of, x_of, y_of, built_of, recent_training, training_of}
 use Rattle.history_view.specs.View.{reaches_of, viewed, view_of}
 use Rattle.history.specs.RowsAgree.{RowsAgree}
+use Rattle.history_view.proofs.Generous.{recent-agree}
 use Rattle.history_view.specs.Agree.{WholeAgree, Agree, OrderFree, OlderUnread}
 use Rattle.history.proofs.KeptRows.{cell, kept_row, kept-covers}
 use Rattle.param_mapping.proofs.Opened.{accepted}
@@ -175,10 +176,7 @@ order-free =
 pub older-unread : OlderUnread
 older-unread =
     record {
-      refusal = refusal;
-      mapping = λ n dims k g h w r. mapping-by n dims k g h (refusal n g h w r) (λ _. rw r);
-      training = λ n dims k g h w r. training-by n dims k g h (refusal n g h w r) (λ _. rw r);
+      refusal = λ n g h r. order-free.refusal n 0 g h (recent-agree n g h r);
+      mapping = λ n dims k g h r. order-free.mapping n 0 dims k g h (recent-agree n g h r);
+      training = λ n dims k g h r. order-free.training n 0 dims k g h (recent-agree n g h r);
     }
-  where
-    refusal : (n : ℕ) (g h : List ℕ) → whole_rows n g ≡ whole_rows n h → recent_of n g ≡ recent_of n h → check_of n g ≡ check_of n h
-    refusal n g h w r = rw (refusal_is n g, refusal_is n h, w, r)

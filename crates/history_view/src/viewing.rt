@@ -1,6 +1,6 @@
 // What a sampler sees of a history, and what it does not.
 ghost use Rattle.std.specs.Prelude.{◌≡◌};
-ghost use Rattle.history_view.specs.Agree.{OrderFree, OlderUnread};
+ghost use Rattle.history_view.specs.Agree.{OrderFree, OlderUnread, Generous};
 ghost use Rattle.history_view.specs.Usable.{Usable};
 ghost use Rattle.history_view.specs.View.{view_of};
 
@@ -29,6 +29,11 @@ pub fn order_free()
 // Older words are never read.
 pub fn older_unread()
     ensures { OlderUnread }
+{}
+
+// Histories that differ in no more than that agree.
+pub fn generous()
+    ensures { Generous }
 {}
 
 // Training data that are not refused meet the fit's domain.

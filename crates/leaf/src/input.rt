@@ -21,7 +21,7 @@ impl Answers {
         Answers {
             rt,
             words: [0; 4096],
-            results: [0; 8192],
+            results: [0; 8248],
             output: Output::new(),
             long: false,
         }

@@ -4,14 +4,15 @@ ghost use Rattle.leaf.specs.declared.reply.Failure.TheVariants.{Refused};
 
 use refusal::Refusal;
 
-// The array to whose start a call puts the words of its result.
-pub type Results = [u64; 8192];
+// The array to whose start a call puts the words of its result. A run's are the most: four for each of 2,045 calls, two,
+// and two for each of 32 places.
+pub type Results = [u64; 8248];
 
 // How many words of that array are the result.
 #[derive(Clone, Copy)]
 pub struct Written {
     pub words: usize,
-    ghost fits: { words ≤ 8192 },
+    ghost fits: { words ≤ 8248 },
 }
 
 // Why a call has no result: it is refused, or the line is none of its leaf.
@@ -33,7 +34,7 @@ pub type Reply = Result<Written, Failure>;
 
 // A result of these words.
 pub(crate) fn put<const N: usize>(words: [u64; N], results: &mut Results) -> Reply
-    requires { N ≤ 8192 }
+    requires { N ≤ 8248 }
 {
     results[..N].copy_from_slice(&words);
     Ok(Written { words: N })

@@ -7,7 +7,7 @@ use crate::codings;
 use crate::reply::{Failure, Reply, Results, Written};
 use refusal::Refusal;
 use sampler_laws::{Answer, Sampled};
-use sampler_state::Sampler;
+use sampler_state::{Place, Sampler};
 use settings::Settings;
 
 // A call: of sample the trial, the distribution's words and the history, or of close the trial.
@@ -63,8 +63,24 @@ fn told(answer: Result<Answer, Refusal>) -> [u64; 4] {
     }
 }
 
-// The calls, one after the other, and then the generator's word and the number of taken places. Each call has two words
-// or more, and puts four.
+// For each taken place, in order, its trial and its next dimension, from `start` on. Answers where they end.
+fn put_places(places: &[Option<Place>; 32], start: usize, results: &mut Results) -> usize
+    requires { start ≤ 8184 }
+    ensures { result ≤ 8248 }
+{
+    let mut to = start;
+    for place in places {
+        if let Some(place) = place {
+            results[to] = place.trial;
+            results[to + 1] = place.next_dim as u64;
+            to += 2;
+        }
+    }
+    to
+}
+
+// The calls, one after the other, and then the generator's word, the number of taken places and these places. Each call
+// has two words or more, and puts four.
 fn calls(s: Sampler, words: &[u64], results: &mut Results) -> Reply
     requires { length words.now ≤ 4091 }
 {
@@ -81,7 +97,8 @@ fn calls(s: Sampler, words: &[u64], results: &mut Results) -> Reply
     }
     results[to] = held.word;
     results[to + 1] = sampler_state::taken_count(&held.places) as u64;
-    Ok(Written { words: to + 2 })
+    let words = put_places(&held.places, to + 2, results);
+    Ok(Written { words })
 }
 
 pub(crate) fn run(args: &[u64], results: &mut Results) -> Reply {

@@ -45,8 +45,9 @@ enum Call<'a> {
     Close { trial: u64 },
 }
 
-/// The settings and then calls: four words for each call, the generator's word and the number of
-/// taken places. None where the words do not divide into calls, whatever the settings are.
+/// The settings and then calls: four words for each call, the generator's word, the number of taken
+/// places, and of each of these its trial and its next dimension. None where the words do not divide
+/// into calls, whatever the settings are.
 pub fn run(words: &[u64]) -> Option<Answer> {
     let (settings, rest) = words.split_first_chunk()?;
     let settings = Settings::of(settings);
@@ -108,8 +109,54 @@ impl Settings {
 }
 
 fn answers(sampler: &GpSampler, slots: u64, calls: &[Call]) -> Vec<u64> {
-    let answers: Vec<CallAnswer> = calls.iter().map(|call| answer(sampler, slots, call)).collect();
-    [&answers.concat()[..], &[sampler.generator_word(), sampler.place_count() as u64]].concat()
+    let mut places = Places::none();
+    let mut words = vec![];
+    for call in calls {
+        words.extend(answer(sampler, slots, call));
+        places.follow(sampler, call.trial());
+    }
+    words.extend([sampler.generator_word(), sampler.place_count() as u64]);
+    words.extend(places.words(sampler));
+    words
+}
+
+impl Call<'_> {
+    fn trial(&self) -> u64 {
+        match *self {
+            Self::Sample { trial, .. } | Self::Close { trial } => trial,
+        }
+    }
+}
+
+/// Which trial each place holds. The Rust has a map in their stead: this is written from document 01.
+struct Places([Option<u64>; MAX_PLACES]);
+
+impl Places {
+    fn none() -> Self {
+        Self([None; MAX_PLACES])
+    }
+
+    /// After a call of this trial: it takes the first free place where it is new in the map, and
+    /// frees its own where it is there no more.
+    fn follow(&mut self, sampler: &GpSampler, trial: u64) {
+        let place = self.0.iter().position(|held| *held == Some(trial));
+        match (place, sampler.has_place(trial)) {
+            (None, true) => self.take(trial),
+            (Some(place), false) => self.0[place] = None,
+            _ => {}
+        }
+    }
+
+    fn take(&mut self, trial: u64) {
+        let first_free = self.0.iter_mut().find(|held| held.is_none());
+        *first_free.expect("a free place for a new trial") = Some(trial);
+    }
+
+    /// In order, each taken one's trial and next dimension.
+    fn words(&self, sampler: &GpSampler) -> Vec<u64> {
+        let taken = self.0.iter().flatten();
+        taken.flat_map(|&trial| [trial, sampler.next_dimension(trial) as u64]).collect()
+    }
 }
 
 fn answer(sampler: &GpSampler, slots: u64, call: &Call) -> CallAnswer {

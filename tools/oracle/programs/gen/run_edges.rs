@@ -14,7 +14,7 @@ use run::{CLOSE, MAX_CANDIDATES, MAX_DIMENSIONS, MAX_NOISE, MAX_PLACES, MAX_STAR
 pub fn edges() -> Vec<Vec<u64>> {
     let limits = limits().into_iter().map(|runs| words(&runs));
     let limits: Vec<_> = limits.chain([unreadable()]).collect();
-    distinct([alternated(limits), words(&histories())].concat())
+    distinct([words(&freed_places()), alternated(limits), words(&histories())].concat())
 }
 
 /// All that can be read.
@@ -147,6 +147,29 @@ fn places() -> Vec<Run> {
         full.ask(1, &tens()).ask(last, &unit()).ask(last + 1, &tens()).ask(1, &choice(5)),
     ];
     alternated([closed.to_vec(), taken_again.to_vec(), others])
+}
+
+/// Places freed and taken by other trials, the first of several free ones, with each trial's next
+/// dimension: the places at the end show which was taken. Two dimensions, of which most trials ask one.
+fn freed_places() -> Vec<Run> {
+    let discovery = Run::new(settings(1, 1, 2)).ask_each(TRIALS[0] + 1000, &[tens(), unit()]);
+    let asked = |run: Run, trials: &[u64]| trials.iter().fold(run, |run, &t| run.ask(t, &tens()));
+    let closed = |run: Run, trials: &[u64]| trials.iter().fold(run, |run, &t| run.close(t));
+    let four = asked(discovery.clone(), &[1, 2, 3, 4]);
+    let full =
+        (1..=MAX_PLACES as u64).fold(discovery.clone(), |run, trial| run.ask(trial, &tens()));
+    vec![
+        asked(closed(four.clone(), &[2]), &[5, 6]),
+        asked(closed(four.clone(), &[2, 3]), &[5]),
+        asked(closed(four.clone(), &[3, 2]), &[5]),
+        asked(closed(four.clone(), &[4, 1, 3]), &[5, 6]).ask(5, &unit()),
+        asked(closed(asked(closed(four.clone(), &[1, 2]), &[5]), &[3, 5]), &[3, 2, 1]),
+        // A closed trial comes again; its second value, and draws past the last dimension.
+        asked(closed(four, &[1, 3]), &[3, 3, 3, 2, 1]),
+        asked(closed(full.clone(), &[17, 9, 32, 1]), &[40, 41, 42]).ask_each(41, &[unit(), unit()]),
+        asked(closed(full, &[30, 20, 10]), &[10, 20, 30]),
+        asked(discovery.ask_each(1, &[tens(), unit(), tens()]), &[2, 2]).ask(3, &tens()),
+    ]
 }
 
 /// Rows of one slot with the distribution of the edges about places.

@@ -126,6 +126,12 @@ impl GpSampler {
         self.state.lock().trial_progress.remove(&trial).is_some()
     }
 
+    /// Of a trial with progress: the dimension to serve next. The Rust counts on past the last one.
+    pub fn next_dimension(&self, trial: u64) -> usize {
+        let state = self.state.lock();
+        state.trial_progress[&trial].next_dim.min(state.dimensions.len())
+    }
+
     pub fn generator_word(&self) -> u64 {
         self.state.lock().rng.state()
     }
