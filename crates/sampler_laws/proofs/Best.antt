@@ -67,7 +67,7 @@ best s (asks d trial h) n = λ t g m e.
     let q = stores-earliest s.settings s.dimensions.list s.dimensions.count s.word (served_history s h) f.draw f.is (and_l (fit_made s h) (is_ok (fit_answer s h)) g) m e in
     record {
       none = λ z. stores s after trial h _ f (q.none z);
-      found = λ z. let b = q.found z in (b.0, b.1, stores s after trial h _ f b.2, b.3, b.4);
+      found = λ z. let b = q.found z in record { index = b.index; best = b.best; stored = stores s after trial h _ f b.decoded };
     }
   where
     answered : (r : Result Answer Refusal) → T (is_ok r) → (a : Answer) × (r ≡ Ok a)

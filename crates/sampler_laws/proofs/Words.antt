@@ -30,4 +30,4 @@ pub call : (s : Sampler) (c : Call) → Right s (call_of s c)
 call s (asks d trial h) =
     by-sample s d trial h (Right s) (λ c _. no s c) (λ r _ _ _ x e. accepted s _ (subst (Moved s.word) e (random-moves s.word r)).next)
     (λ r _ _ _ v e. accepted s _ (serving-moves s.settings s.dimensions.list s.dimensions.count s.word (held_by s.places trial) r trial (served_history s h) v e))
-call s (closes trial) = by-close s trial (Right s) (λ _. no s OutOfDomain) (no s UnknownTrial) (λ _. accepted s _ (unfold moved_of in refl))
+call s (closes trial) = by-close s trial (Right s) (λ _. no s OutOfDomain) (λ _ _. no s UnknownTrial) (λ _ _. accepted s _ (unfold moved_of in refl))

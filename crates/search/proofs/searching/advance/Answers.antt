@@ -1,6 +1,6 @@
 -- `search::searching::advance` meets its contract: turn by turn, and then what is left. Assumes nothing.
 use mathlib.Core.Path.{◌≡◌, refl, ◌∙◌, ap}
-use Prim.Native.Nat.{◌+◌, ◌*◌, ◌/◌, ◌%◌}
+use Prim.Native.Nat.{◌+◌, ◌*◌, ◌%◌}
 use native.Mathlib.Omega.{arith}
 use Rattle.search.specs.Search.{advance_of}
 use Rattle.search.specs.Lent.{model_of}
