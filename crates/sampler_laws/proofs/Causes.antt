@@ -22,7 +22,7 @@ use Rattle.gp_model.specs.Statistics.{lengthscales_of}
 use Rattle.distribution.proofs.Facts.{parts}
 use Rattle.distribution.specs.declared.Distribution.{Distribution}
 use Rattle.refusal.specs.declared.Refusal.{Refusal}
-use Rattle.refusal.specs.declared.Refusal.TheVariants.{BrokenRows, Objective, Slot, RepeatedId, UnequalId, NoRows, Pivot, OutOfDomain}
+use Rattle.refusal.specs.declared.Refusal.TheVariants.{NoRows, Pivot, OutOfDomain}
 use Rattle.refusal.specs.Numbers.{cause_number, number_of}
 use Rattle.history_rows.specs.Rows.{whole_rows}
 use Rattle.history_rows.specs.Tests.{row_ok, slots_ok, ids_once, rows_agreeing, recent_tests, check_of}
@@ -59,8 +59,8 @@ history : (n : ℕ) (h : List ℕ) (k : ℕ) → leb 1 n ≡ true → leb n 20 �
 unfolding check_of recent_tests
 history n h k a b =
     rw (a, b)
-    (tested (whole_rows n h) _ BrokenRows k _ (tested (every_recent n h row_ok) _ Objective k _ (tested (every_recent n h (slots_ok n)) _ Slot k _
-    (tested (every_recent n h (ids_once n)) _ RepeatedId k _ (tested (every_recent n h (λ a. every_recent n h (rows_agreeing n a))) (Ok tt) UnequalId k k refl)))))
+    (tested (whole_rows n h) _ _ k _ (tested (every_recent n h row_ok) _ _ k _ (tested (every_recent n h (slots_ok n)) _ _ k _
+    (tested (every_recent n h (ids_once n)) _ _ k _ (tested (every_recent n h (λ a. every_recent n h (rows_agreeing n a))) (Ok tt) _ k k refl)))))
 
 -- ---- a sample call
 
@@ -79,12 +79,12 @@ module _ (s : Sampler) (t : Typed s) (d : Asked) (trial : ℕ) (h : List ℕ) wh
   past-tests r p = sym (ap (λ (x : Result Unit Refusal). then_number x placed) p.history) ∙ causes r p.ok p.read
 
   refused : {c : Refusal} → Refusing s d trial h c → cause_number c ≡ cause_of s (asks d trial h)
-  refused (malformed-sampler x) = unfold cause_of in rw x
-  refused (malformed-asked o q) = unfold cause_of in rw (is_true (sampler_ok s) o, q)
+  refused (malformed-sampler c n x) = unfold cause_of in rw x n
+  refused (malformed-asked c n o q) = unfold cause_of in rw (is_true (sampler_ok s) o, q) n
   refused (bad-history o r q c x) = sym (ap (λ (x : Result Unit Refusal). then_number x placed) x) ∙ causes r o q
-  refused (no-dimension r p past x) = (rw (past, eq-eqb s.dimensions.count 20 x)) ∙ past-tests r p
+  refused (no-dimension c n r p past x) = n ∙ (rw (past, eq-eqb s.dimensions.count 20 x)) ∙ past-tests r p
   refused (no-draw r p c x) = absurd (draws s (well s t p.ok) d trial h r p c x)
-  refused (no_place r p past l) = let f = no-spot s.places trial l in (rw (past, eq-eqb (taken_count s.places) 32 f.0, eq-eqb (trial_place s.places trial) 32 f.1)) ∙ past-tests r p
+  refused (no_place c n r p past l) = n ∙ let f = no-spot s.places trial l in (rw (past, eq-eqb (taken_count s.places) 32 f.0, eq-eqb (trial_place s.places trial) 32 f.1)) ∙ past-tests r p
   refused (no-values r p past c x) = absurd (serves s (well s t p.ok) d trial h r p past c x)
 
   -- where 32 are taken, a trial without a place has no spot
@@ -104,7 +104,7 @@ module _ (s : Sampler) (t : Typed s) (d : Asked) (trial : ℕ) (h : List ℕ) wh
 closed : (s : Sampler) (trial : ℕ) → call_number (call_of s (closes trial)) ≡ cause_of s (closes trial)
 unfolding cause_of
 closed s trial =
-    by-close s trial (λ r. call_number r ≡ cause_of s (closes trial)) (λ x. rw x) (λ o l. rw (is_true (sampler_ok s) o, eq-eqb (trial_place s.places trial) 32 (none l)))
+    by-close s trial (λ r. call_number r ≡ cause_of s (closes trial)) (λ c n x. rw x n) (λ c n o l. rw (is_true (sampler_ok s) o, eq-eqb (trial_place s.places trial) 32 (none l)) n)
     (λ o l. rw (is_true (sampler_ok s) o, ne_eqb (trial_place s.places trial) 32 (λ z. omega arith)))
   where
     none : 32 ≤ trial_place s.places trial → trial_place s.places trial ≡ 32

@@ -133,7 +133,7 @@ module _ (s : Sampler) (t : Typed s) (d : Asked) (trial : ℕ) (h : List ℕ) wh
 
 closed : (s : Sampler) → Typed s → (trial : ℕ) → (a : Answer) → (call_of s (closes trial)).answer ≡ Ok a → Closed s trial a (call_of s (closes trial)).sampler
 closed s t trial =
-    by-close s trial (λ r. (a : Answer) → r.answer ≡ Ok a → Closed s trial a r.sampler) (λ _ a e. absurd (cc)) (λ _ _ a e. absurd (cc))
+    by-close s trial (λ r. (a : Answer) → r.answer ≡ Ok a → Closed s trial a r.sampler) (λ _ _ _ a e. absurd (cc)) (λ _ _ _ _ a e. absurd (cc))
     (λ o l. accepted s (freed_of s trial) (λ a. Closed s trial a (freed_of s trial).sampler) (record {
       value = refl;
       word = refl;

@@ -95,12 +95,12 @@ module _ (s : Sampler) (g : Well s) where
     serves r p past c x = let z = sym (served r p past).is ∙ x in cc
 
     not-11 : {c : Refusal} → Refusing s d trial h c → cause_number c ≡ 11 → ⊥
-    not-11 (malformed-sampler x) e = T_not (sampler_ok s) (untaken x) (parts-ok s g.ok)
-    not-11 (malformed-asked o q) e = omega arith
+    not-11 (malformed-sampler c n x) e = T_not (sampler_ok s) (untaken x) (parts-ok s g.ok)
+    not-11 (malformed-asked c n o q) e = omega arith
     not-11 (bad-history o r q c x) e = let l = refusal-small s.settings h g.ok.settings in let n = ap number_of x in omega arith
-    not-11 (no-dimension r p q x) e = omega arith
+    not-11 (no-dimension c n r p q x) e = omega arith
     not-11 (no-draw r p c x) e = absurd (draws r p c x)
-    not-11 (no_place r p q l) e = omega arith
+    not-11 (no_place c n r p q l) e = omega arith
     not-11 (no-values r p past c x) e = absurd (serves r p past c x)
 
     sampled : Good (call_of s (asks d trial h))
@@ -121,7 +121,7 @@ module _ (s : Sampler) (g : Well s) where
 
   close : (trial : ℕ) → Good (call_of s (closes trial))
   close trial =
-      by-close s trial Good (λ e. absurd (T_not (sampler_ok s) (untaken e) (parts-ok s g.ok))) (λ _ _. record { well = g; answered = λ e. omega arith })
+      by-close s trial Good (λ _ _ e. absurd (T_not (sampler_ok s) (untaken e) (parts-ok s g.ok))) (λ c n _ _. record { well = g; answered = λ e. omega arith })
       (λ _ l. accepted s (freed_of s trial) (with-place s g _ empty_place l (free-ok s.active s.dimensions.list s.dimensions.count empty_place refl) (emptied-once s.places g.typed.places g.ok.once trial l)))
 
 good : (s : Sampler) (c : Call) → Well s → Good (call_of s c)
