@@ -1,6 +1,6 @@
 -- Every new trial with a model stores the decoding of the best point drawn for it. Assumes nothing.
 use Prim.Native.Nat.{ℕ, ◌<◌}
-use mathlib.Core.Path.{◌≡◌, refl, sym, ◌∙◌}
+use mathlib.Core.Path.{◌≡◌, refl, sym, ◌∙◌, subst}
 use mathlib.Core.Bool.{true, true≢false}
 use mathlib.Core.List.{List}
 use mathlib.Core.Logic.{inl, inr}
@@ -45,7 +45,7 @@ filled s n d trial h past none =
     (λ v. Filled s trial h (written_of (activated s) (spot_of s trial) v).sampler) (λ q f _. absurd (taken q f)) (λ q f _ _ _. absurd (taken q f))
     (λ _ c z.
     let p = put-new s.places n (spot_of s trial) l (Some (stored_of trial c).place) trial none (eqb_refl trial) in
-    record { draw = c; is = z; placed = rw p.0 l; held = p.1 }) v e)
+    record { draw = c; is = z; placed = subst (λ (k : ℕ). k < 32) (sym p.0) l; held = p.1 }) v e)
   where
     -- no place is found for it
     taken : (q : Place) → held_by s.places trial ≡ Some q → ⊥
