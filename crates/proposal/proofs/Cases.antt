@@ -52,9 +52,13 @@ use Rattle.proposal.specs.Proposal.{candidate_of, compute_candidate_of}
 use Rattle.dimensions.specs.Empty.{empty_value}
 use Rattle.proposal.specs.Values.{Values, step_of, walk_of}
 
--- that start-up count, no candidates, no noise, one slot
+-- that start-up count and noise, no candidates, one slot
+abbrev noisy : ℕ → ℕ → Settings
+noisy startup noise = record { n_startup_trials = startup; n_candidates = 0; noise_variance = of_bits binary64 noise; seed = 1; slots = 1 }
+
+-- without noise
 abbrev settings : ℕ → Settings
-settings startup = record { n_startup_trials = startup; n_candidates = 0; noise_variance = of_bits binary64 0; seed = 1; slots = 1 }
+settings startup = noisy startup 0
 
 -- a choice of 5, then an int from 0 to 9
 abbrev dims : List DimensionInfo
@@ -88,3 +92,17 @@ Modelled = said (compute_candidate_of (settings 1) dims 2 1 (7 ∷ 1 ∷ 0 ∷ 9
 modelled : Modelled
 unfolding compute_candidate_of candidate_of point_for step_of walk_of settings_ok view_of training_of recent_training slot_with entry_of column_of kept_of trains_of covers_of x_of y_of asked_of mapped_of entries_of insert_by_id first_entry consumed_of matches_of dimension_ok dimensions_ok columns_of whole_rows row_count recent_count recent_of row_ok slot_read slot_ok agreeing slots_ok ids_once rows_agreeing recent_tests check_of equal_of taken_of value_of int_taken read_of checked_of encoded_of to_internal_of to_normalized_of optimum_of advance_of fit_of fit_domain fitted_of all_within covariance_of similarity_of lengthscale_of variance_of mean_of cholesky_of factor_columns rows_of less_of matern52_of scaled_root_of decay_of sum_over exp_of horner_of reduced_of scaled_of whole_of sqrt_of root_of isqrt from_normalized_of bounds_of ends_of from_internal_of decoded_of int_grid sample_random_of random_of int_random linear_int_random categorical_random shape_of int_shape int_step categorical_shape word_draw_of whole_draw_of whole_at range_ok unit_of next_of moved_of nearest_of round_of every grown place_of places_of of_bits to_bits of_int to_signed round add sub mul div neg le lt eq is_nan
 modelled = refl
+
+-- two rows alike, the int taken at 5: without noise the second pivot is 0, so that the fit is refused and the int is the first word's unit float, some 2 ^ -34, and the choice the second word's;
+-- with a noise of 1 there is a model, whose point without candidates is all 0.5, and the choice takes the first word
+abbrev alike : List ℕ
+alike = 7 ∷ 1 ∷ 0 ∷ 9 ∷ 2 ∷ 0 ∷ 9 ∷ 0 ∷ 0 ∷ 0 ∷ 5 ∷ 8 ∷ 1 ∷ 0 ∷ 9 ∷ 2 ∷ 0 ∷ 9 ∷ 0 ∷ 0 ∷ 0 ∷ 5 ∷ []
+
+abbrev Noise : Type 0
+Noise =
+    (said (compute_candidate_of (noisy 2 0) dims 2 1 alike) ≡ Ok (2, ParamValue.Categorical 0, ParamValue.Int (pos 0)))
+    × (said (compute_candidate_of (noisy 2 0x3ff0000000000000) dims 2 1 alike) ≡ Ok (1, ParamValue.Categorical 1, ParamValue.Int (pos 5)))
+
+noise : Noise
+unfolding compute_candidate_of candidate_of point_for step_of walk_of settings_ok view_of training_of recent_training slot_with entry_of column_of kept_of trains_of covers_of x_of y_of asked_of mapped_of entries_of insert_by_id first_entry consumed_of matches_of dimension_ok dimensions_ok columns_of whole_rows row_count recent_count recent_of row_ok slot_read slot_ok agreeing slots_ok ids_once rows_agreeing recent_tests check_of equal_of taken_of value_of int_taken read_of checked_of encoded_of to_internal_of to_normalized_of optimum_of advance_of fit_of fit_domain fitted_of all_within covariance_of similarity_of lengthscale_of variance_of mean_of cholesky_of factor_columns rows_of less_of matern52_of scaled_root_of decay_of sum_over exp_of horner_of reduced_of scaled_of whole_of sqrt_of root_of isqrt from_normalized_of bounds_of ends_of from_internal_of decoded_of int_grid sample_random_of random_of int_random linear_int_random categorical_random shape_of int_shape int_step categorical_shape word_draw_of whole_draw_of whole_at range_ok unit_of next_of moved_of nearest_of round_of every grown place_of places_of of_bits to_bits of_int to_signed round add sub mul div neg le lt eq is_nan
+noise = (refl, refl)

@@ -5,7 +5,7 @@ use mathlib.Core.Bool.{Bool, ◌&&◌, cond}
 use mathlib.Core.List.{List}
 use lib.Dec.{T, leb}
 use lib.ListN.{length, get_or, replicate, length-replicate}
-use lib.Ieee.{Float, nan, binary64, le, lt, of_bits}
+use lib.Ieee.{Float, nan, binary64, of_bits}
 use lib.Ieee.Bits.{is_true}
 use Rattle.distribution.specs.Shape.{continuous_of}
 use Rattle.arith.specs.Lists.{padded}
@@ -18,7 +18,7 @@ use Rattle.rng_util.specs.Generator.{moved_of}
 use Rattle.std.specs.Prelude.{Some, None, Result, Ok}
 use Rattle.refusal.specs.declared.Refusal.{Refusal}
 use Rattle.gp_model.specs.declared.Model.{Model}
-use Rattle.search.specs.Earliest.{drawn_of}
+use Rattle.search.specs.Earliest.{drawn_of, EarliestHighest}
 use Rattle.search.specs.Search.{score_of, optimum_of}
 use Rattle.search.proofs.Earliest.{earliest}
 use Rattle.dimensions.specs.declared.DimensionInfo.{DimensionInfo}
@@ -65,13 +65,15 @@ from-array dims k values x point f e n j l c =
 
 -- ---- the best point
 
--- d is how many of them are continuous
+-- the values decode the best point drawn; d is how many of them are continuous
+pub record StoresDrawn (dims : List DimensionInfo) (k candidates w : ℕ) (m : Model) (values : List ParamValue) (d : ℕ) : Type 0 where
+  pub index : ℕ
+  pub best : EarliestHighest (λ i. score_of m (drawn_of d (stream_of (candidates * d) w) i)) candidates index
+  pub decoded : Decodes dims k values (drawn_of d (stream_of (candidates * d) w) index)
+
 pub record StoresEarliest (dims : List DimensionInfo) (k candidates w : ℕ) (m : Model) (values : List ParamValue) (d : ℕ) : Type 0 where
   pub none : candidates ≡ 0 → Decodes dims k values (replicate d (of_bits binary64 0x3fe0000000000000))
-  pub found : let point = drawn_of d (stream_of (candidates * d) w) in 0 < candidates
-      → (c : ℕ) × (c < candidates) × Decodes dims k values (point c)
-      × ((i : ℕ) → i < candidates → T (le (score_of m (point i)) (score_of m (point c))))
-      × ((i : ℕ) → i < c → T (lt (score_of m (point i)) (score_of m (point c))))
+  pub found : 0 < candidates → StoresDrawn dims k candidates w m values d
 
 module _ (s : Settings) (dims : List DimensionInfo) (k w : ℕ) (h : List ℕ) where
   abbrev view : View
@@ -99,5 +101,9 @@ module _ (s : Settings) (dims : List DimensionInfo) (k w : ℕ) (h : List ℕ) w
         let q = model-columns view.training s.noise_variance m f ∙ view-columns s dims k w h (made-by s dims k w h c e).asked in
         subst (StoresEarliest dims k s.n_candidates w m c.value) q (record {
           none = λ z. from-array dims k c.value x (replicate d (of_bits binary64 0x3fe0000000000000)) v (a.none z) (length-replicate d (of_bits binary64 0x3fe0000000000000) ∙ q);
-          found = λ z. let b = a.found z in (b.0, b.1, from-array dims k c.value x (drawn_of d (stream_of (s.n_candidates * d) w) b.0) v b.2 (grown-length (λ xs j. unit_of (get_or (stream_of (s.n_candidates * d) w) (b.0 * d + j) 0)) d ∙ q), b.3, b.4);
+          found = λ z. let b = a.found z in record {
+            index = b.index;
+            best = b.best;
+            decoded = from-array dims k c.value x (drawn_of d (stream_of (s.n_candidates * d) w) b.index) v b.point (grown-length (λ xs j. unit_of (get_or (stream_of (s.n_candidates * d) w) (b.index * d + j) 0)) d ∙ q);
+          };
         })

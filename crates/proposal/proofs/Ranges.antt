@@ -127,7 +127,7 @@ point-coordinate t noise candidates w i h l = go (fit_for t noise) refl
           | inl z ↦ subst Coordinate (sym (ap (λ (y : List Float). get_or y i nan) (r.none z)
               ∙ padded-at 20 (replicate m.d (of_bits binary64 0x3fe0000000000000)) i (rw (length-replicate m.d (of_bits binary64 0x3fe0000000000000)) k)
               ∙ get_or-replicate m.d i (of_bits binary64 0x3fe0000000000000) nan k)) half-coordinate
-          | inr p ↦ let f = r.found p in drawn-coordinate (λ j. get_or (stream_of (candidates * m.d) w) (f.0 * m.d + j) 0) m.d i (optimum_of m candidates w).x f.2 (λ j. stream-small (candidates * m.d) w (f.0 * m.d + j) h) k
+          | inr p ↦ let f = r.found p in drawn-coordinate (λ j. get_or (stream_of (candidates * m.d) w) (f.index * m.d + j) 0) m.d i (optimum_of m candidates w).x f.point (λ j. stream-small (candidates * m.d) w (f.index * m.d + j) h) k
         ]
 
     go : (f : Result Model Refusal) → fit_for t noise ≡ f → Coordinate (get_or (point_by f t.d candidates w).value i nan)

@@ -1,6 +1,6 @@
 -- Every new trial with a model stores the decoding of the best point drawn for it. Assumes nothing.
 use Prim.Native.Nat.{ℕ, ◌<◌}
-use mathlib.Core.Path.{◌≡◌, refl, sym, ◌∙◌}
+use mathlib.Core.Path.{◌≡◌, refl, sym, ◌∙◌, subst}
 use mathlib.Core.Bool.{true, true≢false}
 use mathlib.Core.List.{List}
 use mathlib.Core.Logic.{inl, inr}
@@ -45,7 +45,7 @@ filled s n d trial h past none =
     (λ v. Filled s trial h (written_of (activated s) (spot_of s trial) v).sampler) (λ q f _. absurd (taken q f)) (λ q f _ _ _. absurd (taken q f))
     (λ _ c z.
     let p = put-new s.places n (spot_of s trial) l (Some (stored_of trial c).place) trial none (eqb_refl trial) in
-    record { draw = c; is = z; placed = rw p.0 l; held = p.1 }) v e)
+    record { draw = c; is = z; placed = subst (λ (k : ℕ). k < 32) (sym p.0) l; held = p.1 }) v e)
   where
     -- no place is found for it
     taken : (q : Place) → held_by s.places trial ≡ Some q → ⊥
@@ -67,7 +67,7 @@ best s (asks d trial h) n = λ t g m e.
     let q = stores-earliest s.settings s.dimensions.list s.dimensions.count s.word (served_history s h) f.draw f.is (and_l (fit_made s h) (is_ok (fit_answer s h)) g) m e in
     record {
       none = λ z. stores s after trial h _ f (q.none z);
-      found = λ z. let b = q.found z in (b.0, b.1, stores s after trial h _ f b.2, b.3, b.4);
+      found = λ z. let b = q.found z in record { index = b.index; best = b.best; stored = stores s after trial h _ f b.decoded };
     }
   where
     answered : (r : Result Answer Refusal) → T (is_ok r) → (a : Answer) × (r ≡ Ok a)

@@ -5,15 +5,19 @@ use mathlib.Core.Bool.{true, false, cond}
 use lib.Dec.{eqb}
 use mathlib.Core.List.{[], ◌∷◌}
 use lib.IntN.{pos}
-use lib.Ieee.{binary64, of_bits, to_bits, of_int, le, lt, eq, neg}
+use lib.Ieee.{binary64, of_bits, to_bits, of_int, to_signed, round, add, sub, mul, div, le, lt, eq, neg, is_nan}
 use Rattle.arith.specs.Lists.{every, filled, grown, place_of, places_of}
 use Rattle.rng_util.specs.Draws.{unit_of, word_draw_of, whole_draw_of, whole_of, range_ok}
-use Rattle.rng_util.specs.Generator.{stream_of, next_of as step}
+use Rattle.rng_util.specs.Generator.{stream_of, moved_of, next_of as step}
 use Rattle.distribution.specs.declared.Distribution.{Distribution}
 use Rattle.distribution.specs.declared.ParamValue.{ParamValue}
 use Rattle.distribution.specs.Shape.{shape_of, int_shape, int_step, categorical_shape}
 use Rattle.distribution_words.specs.Words.{read_of, checked_of}
 use Rattle.encoding.specs.Bounds.{bounds_of, ends_of}
+use Rattle.arith.specs.Rounding.{nearest_of, round_of}
+use Rattle.scaling.specs.Scaling.{from_normalized_of}
+use Rattle.common.specs.Decode.{from_internal_of, decoded_of}
+use Rattle.common.specs.Grid.{int_grid}
 use Rattle.common.specs.Random.{sample_random_of, random_of, int_random, linear_int_random, categorical_random}
 use Rattle.dimensions.specs.Empty.{empty_value}
 use Rattle.dimensions.specs.Dimensions.{dimension_ok, dimensions_ok, columns_of}
@@ -23,12 +27,13 @@ use Rattle.refusal.specs.declared.Refusal.TheVariants.{Malformed, BrokenRows, Un
 use Rattle.arith.specs.Outcome.{made}
 use Rattle.gp_model.specs.Fit.{fit_of, fit_domain}
 use Rattle.gp_model.specs.Statistics.{all_within}
-use Rattle.param_mapping.specs.Mapping.{mapped_of, asked_of}
+use Rattle.param_mapping.specs.Mapping.{insert_by_id, entries_of, first_entry, matches_of, mapped_of, asked_of}
 use Rattle.history_rows.specs.Rows.{whole_rows, row_count, recent_count, recent_of}
 use Rattle.history_rows.specs.Tests.{recent_tests, check_of}
-use Rattle.history.specs.Training.{kept_of, x_of, y_of, training_of, recent_training}
+use Rattle.history.specs.Training.{kept_of, trains_of, covers_of, x_of, y_of, training_of, recent_training}
 use Rattle.history_view.specs.View.{view_of}
 use Rattle.settings.specs.Settings.{settings_ok}
+use Rattle.proposal.specs.Points.{point_for}
 use Rattle.proposal.specs.Proposal.{candidate_of, compute_candidate_of}
 use Rattle.proposal.specs.Values.{step_of, walk_of}
 use Rattle.sampler_laws.specs.declared.Answer.{Answer}
@@ -182,6 +187,55 @@ Servings =
 servings : Servings
 unfolding sample_of close_of discover_of serving_of active_of served_of trial_place free_place spot_for taken_count place_ok trials_once sampler_ok settings_ok candidate_of compute_candidate_of step_of walk_of view_of training_of recent_training asked_of dimension_ok dimensions_ok columns_of whole_rows row_count recent_count recent_of recent_tests check_of bounds_of ends_of sample_random_of random_of int_random linear_int_random categorical_random shape_of int_shape int_step categorical_shape read_of checked_of word_draw_of whole_draw_of whole_of range_ok step every grown place_of places_of of_bits to_bits of_int le lt eq neg
 servings = (refl, refl, refl, refl, refl, refl, refl, refl, refl, refl)
+
+-- ---- runs from the seed 42, whose words among 5 and among 10 are 4 4, 1 1, 4 4, 1 6, 2 2, 2 7, 0 5
+
+-- that start-up count; trial 7 has discovered the choice of 5 and the int from 0 to 9, by the first two words
+abbrev seeded : ℕ → Sampler
+seeded startup = (int (choice (fresh_of (record { n_startup_trials = startup; n_candidates = 0; noise_variance = of_bits binary64 0; seed = 42; slots = 1 })) 7).sampler 7).sampler
+
+-- trial 8 asks for two values, and trial 9 for two
+abbrev eight : ℕ → Sampled
+eight startup = choice (seeded startup) 8
+
+abbrev eight_next : ℕ → Sampled
+eight_next startup = int (eight startup).sampler 8
+
+abbrev nine : ℕ → Sampled
+nine startup = choice (eight_next startup).sampler 9
+
+abbrev nine_next : ℕ → Sampled
+nine_next startup = int (nine startup).sampler 9
+
+-- an int from 0 to 99, asked past trial 8's last dimension
+abbrev beyond : Sampler → Sampled
+beyond s = sample_of s 2 0 99 0 0 0 8 []
+
+abbrev Random : Type 0
+Random =
+    -- start-up 10 is not reached: each new trial gets values of its own, in the dimensions' order
+    ((eight 10).answer ≡ told (ParamValue.Categorical 4) 2)
+    × ((eight_next 10).answer ≡ told (ParamValue.Int (pos 6)) 0)
+    × ((nine 10).answer ≡ told (ParamValue.Categorical 2) 2)
+    × ((nine_next 10).answer ≡ told (ParamValue.Int (pos 7)) 0)
+    -- past the last the seventh word is drawn from what is asked, 75 of 0 to 99
+    × ((beyond (nine_next 10).sampler).answer ≡ told (ParamValue.Int (pos 75)) 1)
+
+random : Random
+unfolding sample_of discover_of serving_of active_of served_of trial_place free_place spot_for taken_count place_ok trials_once sampler_ok settings_ok candidate_of compute_candidate_of step_of walk_of view_of training_of recent_training asked_of dimension_ok dimensions_ok columns_of whole_rows row_count recent_count recent_of recent_tests check_of bounds_of ends_of sample_random_of random_of int_random linear_int_random categorical_random shape_of int_shape int_step categorical_shape read_of checked_of word_draw_of whole_draw_of whole_of range_ok step every grown place_of places_of of_bits to_bits of_int le lt eq neg
+random = (refl, refl, refl, refl, refl)
+
+-- start-up 0 is reached without a row: the fit is refused, the third word is the int's unit float, 0.543, and the fourth the choice
+abbrev Refused : Type 0
+Refused =
+    ((eight 0).answer ≡ told (ParamValue.Categorical 1) 2)
+    × ((eight_next 0).answer ≡ told (ParamValue.Int (pos 5)) 0)
+    × ((nine 0).answer ≡ told (ParamValue.Categorical 2) 2)
+    × ((nine_next 0).answer ≡ told (ParamValue.Int (pos 3)) 0)
+
+refused : Refused
+unfolding sample_of discover_of serving_of active_of served_of trial_place free_place spot_for taken_count place_ok trials_once sampler_ok settings_ok candidate_of compute_candidate_of point_for fit_of fit_domain all_within step_of walk_of from_normalized_of from_internal_of decoded_of int_grid nearest_of round_of view_of training_of recent_training kept_of trains_of covers_of x_of y_of asked_of mapped_of entries_of insert_by_id first_entry matches_of dimension_ok dimensions_ok columns_of whole_rows row_count recent_count recent_of recent_tests check_of bounds_of ends_of sample_random_of random_of int_random linear_int_random categorical_random shape_of int_shape int_step categorical_shape read_of checked_of word_draw_of whole_draw_of whole_of range_ok unit_of moved_of step every grown place_of places_of of_bits to_bits of_int to_signed round add sub mul div neg le lt eq is_nan
+refused = (refl, refl, refl, refl)
 
 -- two candidates and no start-up: after discovery of the int a new trial without a row asks for a fit, which has none, and its points would be the next two words
 abbrev eager : Sampler

@@ -21,7 +21,7 @@ pub call_kept : (P : Sampler → Type 0) → Lasting P → (s : Sampler) (c : Ca
 call_kept P k s (asks d trial h) p =
     by-sample s d trial h (λ r. P r.sampler) (λ _ _. p) (λ r _ _ _ _ _. k.word (with_dimension s trial r) _ (k.dimension s trial r p))
     (λ r _ _ _ _ _. k.word (with_place (activated s) _ _) _ (k.place (activated s) _ _ (k.ended s p)))
-call_kept P k s (closes trial) p = by-close s trial (λ r. P r.sampler) (λ _. p) p (λ _. k.place s _ _ p)
+call_kept P k s (closes trial) p = by-close s trial (λ r. P r.sampler) (λ _ _ _. p) (λ _ _ _ _. p) (λ _ _. k.place s _ _ p)
 
 -- the settings, and how many places there are
 pub settings-kept : (s : Sampler) (c : Call) → (call_of s c).sampler.settings ≡ s.settings

@@ -1,5 +1,6 @@
 pub mod Best
 mod Cases
+pub mod Causes
 pub mod Changes
 pub mod EqualRuns
 pub mod Kept
@@ -9,6 +10,7 @@ mod Others
 pub mod Parts
 pub mod PlaceCounts
 pub mod SameAnswers
+pub mod Served
 pub mod Ways
 pub mod WellFormed
 pub mod WordCounts

@@ -50,7 +50,7 @@ pub serving-same : (settings : Settings) (dims : List DimensionInfo) (k word : �
     → serving_of settings dims k word p d trial g ≡ serving_of settings dims k word p d trial h
 unfolding serving_of compute_candidate_of
 serving-same settings dims k word (Some p) d trial g h v = refl
-serving-same settings dims k word None d trial g h v = rw v
+serving-same settings dims k word None d trial g h v = rw v refl
 
 -- the words of a new trial's values: "the dimension count, or with a model candidates × continuous + choices"
 abbrev pub new_words : Settings → List DimensionInfo → ℕ → List ℕ → ℕ

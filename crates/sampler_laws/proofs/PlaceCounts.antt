@@ -14,7 +14,7 @@ use Rattle.distribution.specs.declared.Distribution.{Distribution}
 use Rattle.dimensions.specs.declared.DimensionInfo.{DimensionInfo}
 use Rattle.dimensions.specs.Dimensions.{dimensions_ok}
 use Rattle.refusal.specs.declared.Refusal.{Refusal}
-use Rattle.refusal.specs.declared.Refusal.TheVariants.{BrokenRows, Objective, Slot, RepeatedId, UnequalId, NoPlace, OutOfDomain}
+use Rattle.refusal.specs.declared.Refusal.TheVariants.{BrokenRows, Objective, Slot, RepeatedId, UnequalId, OutOfDomain}
 use Rattle.refusal.specs.Numbers.{cause_number, number_of}
 use Rattle.param_mapping.specs.Mapping.{asked_of}
 use Rattle.history_rows.specs.Rows.{whole_rows}
@@ -33,11 +33,11 @@ use Rattle.sampler_laws.specs.declared.Sampled.{Sampled}
 use Rattle.sampler_laws.specs.Calls.{active_of, served_of, sample_of}
 use Rattle.sampler_laws.specs.Laws.{PlacesCounted}
 use Rattle.sampler_laws.specs.NewTrials.{past_discovery, new_trial, served_history}
-use Rattle.sampler_laws.specs.Runs.{Asked, asks, closes, call_of, call_number}
+use Rattle.sampler_laws.specs.Runs.{Asked, asks, closes, call_of, call_number, read_asked}
 use Rattle.sampler_laws.proofs.Others.{Other, fine, domain, made-other, then-other, random-other, walked-other}
 use Rattle.sampler_laws.proofs.OneTrial.{by-serving, serves-own}
 use Rattle.sampler_laws.proofs.Parts.{taken-active}
-use Rattle.sampler_laws.proofs.Ways.{read_asked, Refusing, malformed-sampler, malformed-asked, bad-history, no-dimension, no-draw, no_place, no-values, by-sample, by-close}
+use Rattle.sampler_laws.proofs.Ways.{Refusing, malformed-sampler, malformed-asked, bad-history, no-dimension, no-draw, no_place, no-values, by-sample, by-close}
 
 -- ---- the count
 
@@ -57,7 +57,7 @@ module _ (s : Sampler) (n : length s.places ≡ 32) where
   closed : (trial : ℕ) → taken_count (call_of s (closes trial)).sampler.places + cond (is_ok (call_of s (closes trial)).answer) 1 0 ≡ taken_count s.places
   closed trial =
       by-close s trial (λ r. taken_count r.sampler.places + cond (is_ok r.answer) 1 0 ≡ taken_count s.places)
-      (λ _. sym (no_more (taken_count s.places))) (sym (no_more (taken_count s.places))) (λ l. emptied-count s.places n trial l)
+      (λ _ _ _. sym (no_more (taken_count s.places))) (λ _ _ _ _. sym (no_more (taken_count s.places))) (λ _ l. emptied-count s.places n trial l)
 
 -- ---- 9
 
@@ -91,12 +91,12 @@ only-full s d trial h =
     by-sample s d trial h (λ r. call_number r ≡ 9 → (taken_count s.places ≡ 32) × (trial_place s.places trial ≡ 32)) (λ c x e. nine x e) (λ r _ _ _ x _ e. absurd (omega arith)) (λ r _ _ _ v _ e. absurd (omega arith))
   where
     nine : {c : Refusal} → Refusing s d trial h c → cause_number c ≡ 9 → (taken_count s.places ≡ 32) × (trial_place s.places trial ≡ 32)
-    nine (malformed-sampler x) e = absurd (omega arith)
-    nine malformed-asked e = absurd (omega arith)
-    nine (bad-history c x) e = absurd ((history-other s.settings.slots h).no (ap number_of x ∙ e))
-    nine no-dimension e = absurd (omega arith)
+    nine (malformed-sampler c n x) e = absurd (omega arith)
+    nine (malformed-asked c n o q) e = absurd (omega arith)
+    nine (bad-history o r q c x) e = absurd ((history-other s.settings.slots h).no (ap number_of x ∙ e))
+    nine (no-dimension c n r p q x) e = absurd (omega arith)
     nine (no-draw r p c x) e = absurd ((random-other s.word r).no (ap number_of x ∙ e))
-    nine (no_place l) e = no-spot s.places trial l
+    nine (no_place c n r p q l) e = no-spot s.places trial l
     nine (no-values r p q c x) e =
         absurd ((by-serving s.settings s.dimensions.list s.dimensions.count s.word (held_by s.places trial) r trial (served_history s h) Other (λ _ _ _. fine _)
         (λ _ _ _. made-other _ _ (random-other s.word r)) (λ _. made-other _ _ (candidate-other s.settings s.dimensions.list s.dimensions.count s.word (served_history s h)))).no (ap number_of x ∙ e))

@@ -13,10 +13,9 @@ use Rattle.sampler_state.specs.State.{held_by}
 use Rattle.sampler_laws.specs.declared.Answer.{Answer}
 use Rattle.sampler_laws.specs.declared.Sampled.{Sampled}
 use Rattle.sampler_laws.specs.Calls.{active_of, served_of, asked_of, sample_of}
-use Rattle.sampler_laws.specs.Runs.{Asked, asks, closes, Call, call_of, answers_of, end_of, Alike, alike-none, alike-asks, alike-closes}
+use Rattle.sampler_laws.specs.Runs.{Asked, asks, closes, Call, call_of, read_asked, answers_of, end_of, Alike, alike-none, alike-asks, alike-closes}
 use Rattle.sampler_laws.proofs.Kept.{settings-kept}
 use Rattle.sampler_laws.proofs.OneTrial.{serving-same}
-use Rattle.sampler_laws.proofs.Ways.{read_asked}
 
 -- ---- one call with two histories that agree
 

@@ -6,7 +6,7 @@ use native.Mathlib.Omega.{arith}
 use mathlib.Core.Path.{◌≡◌, refl, sym, ap, ◌∙◌, subst}
 use mathlib.Core.Bool.{Bool, true, false, not, ◌||◌, cond}
 use mathlib.Core.List.{List, []}
-use lib.Dec.{T, eqb, ltb}
+use lib.Dec.{T, eqb, eqb→eq, ltb}
 use lib.Ieee.Bits.{is_true}
 use borrow.Author.Tests.{eqb-false, ltb-true, ltb-false}
 use Rattle.arith.specs.Outcome.{made}
@@ -14,10 +14,9 @@ use Rattle.arith.proofs.Tests.{taken, by-test}
 use Rattle.rng_util.specs.declared.Draw.{Draw}
 use Rattle.distribution.specs.declared.Distribution.{Distribution}
 use Rattle.distribution.specs.declared.ParamValue.{ParamValue}
-use Rattle.distribution_words.specs.Words.{read_of}
 use Rattle.common.specs.Random.{sample_random_of}
 use Rattle.refusal.specs.declared.Refusal.{Refusal}
-use Rattle.refusal.specs.declared.Refusal.TheVariants.{Malformed, TooManyDimensions, NoPlace, UnknownTrial, OutOfDomain}
+use Rattle.refusal.specs.Numbers.{cause_number}
 use Rattle.history_rows.specs.Tests.{check_of}
 use Rattle.sampler_state.specs.declared.Sampler.{Sampler}
 use Rattle.sampler_state.specs.State.{trial_place, sampler_ok}
@@ -27,10 +26,7 @@ use Rattle.sampler_laws.specs.declared.Sampled.{Sampled}
 use Rattle.sampler_laws.specs.declared.Serving.{Serving}
 use Rattle.sampler_laws.specs.Calls.{refused_of, answered_of, with_dimension, activated, drawn_of, written_of, discover_of, serving_for, spot_of, active_of, served_of, asked_of, sample_of, freed_of, close_of}
 use Rattle.sampler_laws.specs.NewTrials.{past_discovery, served_history}
-use Rattle.sampler_laws.specs.Runs.{Asked, asks, call_of}
-
-abbrev pub read_asked : Asked → Option Distribution
-read_asked d = read_of d.kind d.low d.high d.log d.stepped d.step
+use Rattle.sampler_laws.specs.Runs.{Asked, asks, call_of, read_asked}
 
 -- ---- a sample call
 
@@ -56,14 +52,14 @@ discovering s trial = go s.active
     go true e = e
     go false e = refl
 
--- why it is refused
+-- why it is refused, with the number
 pub data Refusing (s : Sampler) (d : Asked) (trial : ℕ) (h : List ℕ) : Refusal → Type 0 where
-  malformed-sampler : sampler_ok s ≡ false → Refusing s d trial h OutOfDomain
-  malformed-asked : Refusing s d trial h Malformed
-  bad-history : (c : Refusal) → check_of s.settings.slots h ≡ Err c → Refusing s d trial h c
-  no-dimension : Refusing s d trial h TooManyDimensions
+  malformed-sampler : (c : Refusal) → cause_number c ≡ 11 → sampler_ok s ≡ false → Refusing s d trial h c
+  malformed-asked : (c : Refusal) → cause_number c ≡ 2 → T (sampler_ok s) → read_asked d ≡ None → Refusing s d trial h c
+  bad-history : T (sampler_ok s) → (r : Distribution) → read_asked d ≡ Some r → (c : Refusal) → check_of s.settings.slots h ≡ Err c → Refusing s d trial h c
+  no-dimension : (c : Refusal) → cause_number c ≡ 8 → (r : Distribution) → Passed s d h r → past_discovery s trial ≡ false → s.dimensions.count ≡ 20 → Refusing s d trial h c
   no-draw : (r : Distribution) → Passed s d h r → (c : Refusal) → sample_random_of s.word r ≡ Err c → Refusing s d trial h c
-  no_place : 32 ≤ spot_of s trial → Refusing s d trial h NoPlace
+  no_place : (c : Refusal) → cause_number c ≡ 9 → (r : Distribution) → Passed s d h r → past_discovery s trial ≡ true → 32 ≤ spot_of s trial → Refusing s d trial h c
   no-values : (r : Distribution) → Passed s d h r → past_discovery s trial ≡ true → (c : Refusal) → served_now s r trial h ≡ Err c → Refusing s d trial h c
 
 -- what holds of each way to answer holds of the answer: a refusal, one more dimension, or the trial served and put back
@@ -77,7 +73,7 @@ module _ (s : Sampler) (d : Asked) (trial : ℕ) (h : List ℕ) (P : Sampled →
     -- past discovery, with the history that is lent
     goes : past_discovery s trial ≡ true → Holds (active_of (activated s) r trial (served_history s h))
     unfolding active_of
-    goes past = by-test Holds (ltb (spot_of s trial) 32) _ _ (λ l. served (served_now s r trial h) refl (ltb-true (spot_of s trial) 32 l)) (λ l. no NoPlace (no_place (ltb-false (spot_of s trial) 32 l)))
+    goes past = by-test Holds (ltb (spot_of s trial) 32) _ _ (λ l. served (served_now s r trial h) refl (ltb-true (spot_of s trial) 32 l)) (λ l. no _ (no_place _ refl r p past (ltb-false (spot_of s trial) 32 l)))
       where
         served : (x : Result Serving Refusal) → served_now s r trial h ≡ x → spot_of s trial < 32 → Holds (made (written_of (activated s) (spot_of s trial)) x)
         served (Ok v) e l = serves r p past l v e
@@ -88,7 +84,7 @@ module _ (s : Sampler) (d : Asked) (trial : ℕ) (h : List ℕ) (P : Sampled →
     unfolding discover_of
     discover past =
         let l = dimensions_few s (is_true (sampler_ok s) p.ok) in
-        by-test Holds (eqb s.dimensions.count 20) _ _ (λ z. no TooManyDimensions no-dimension) (λ z. drawn (sample_random_of s.word r) refl (let x = eqb-false s.dimensions.count 20 z in omega arith))
+        by-test Holds (eqb s.dimensions.count 20) _ _ (λ z. no _ (no-dimension _ refl r p past (eqb→eq s.dimensions.count 20 (taken z)))) (λ z. drawn (sample_random_of s.word r) refl (let x = eqb-false s.dimensions.count 20 z in omega arith))
       where
         drawn : (x : Result (Draw ParamValue) Refusal) → sample_random_of s.word r ≡ x → s.dimensions.count < 20 → Holds (made (drawn_of (with_dimension s trial r)) x)
         drawn (Ok x) e l = discovers r p past l x e
@@ -106,21 +102,22 @@ module _ (s : Sampler) (d : Asked) (trial : ℕ) (h : List ℕ) (P : Sampled →
 
   pub by-sample : P (call_of s (asks d trial h))
   unfolding sample_of
-  by-sample = by-test Holds (sampler_ok s) _ _ (λ o. asked (taken o) (read_asked d) refl) (λ o. no OutOfDomain (malformed-sampler o))
+  by-sample = by-test Holds (sampler_ok s) _ _ (λ o. asked (taken o) (read_asked d) refl) (λ o. no _ (malformed-sampler _ refl o))
     where
       asked : T (sampler_ok s) → (x : Option Distribution) → read_asked d ≡ x → Holds (asked_of s x trial h)
-      asked o None q = no Malformed malformed-asked
+      asked o None q = no _ (malformed-asked _ refl o q)
       asked o (Some r) q = tested (check_of s.settings.slots h) refl
         where
           tested : (x : Result Unit Refusal) → check_of s.settings.slots h ≡ x → Holds (result_and x (served_of s r trial h))
           tested (Ok u) z = served r (record { ok = o; read = q; history = z })
-          tested (Err c) z = no c (bad-history c z)
+          tested (Err c) z = no c (bad-history o r q c z)
 
 -- ---- a close
 
-pub by-close : (s : Sampler) (trial : ℕ) (P : Sampled → Type 0) → (sampler_ok s ≡ false → P (refused_of s OutOfDomain)) → P (refused_of s UnknownTrial) → (trial_place s.places trial < 32 → P (answered_of s (Ok (freed_of s trial)))) → P (close_of s trial)
+pub by-close : (s : Sampler) (trial : ℕ) (P : Sampled → Type 0) → ((c : Refusal) → cause_number c ≡ 11 → sampler_ok s ≡ false → P (refused_of s c))
+    → ((c : Refusal) → cause_number c ≡ 10 → T (sampler_ok s) → 32 ≤ trial_place s.places trial → P (refused_of s c)) → (T (sampler_ok s) → trial_place s.places trial < 32 → P (answered_of s (Ok (freed_of s trial)))) → P (close_of s trial)
 unfolding close_of
 by-close s trial P malformed none freed =
     let i = trial_place s.places trial in
     let Holds : Result Accepted Refusal → Type 0 = λ x. P (answered_of s x) in
-    by-test Holds (sampler_ok s) _ _ (λ o. by-test Holds (ltb i 32) _ _ (λ l. freed (ltb-true i 32 l)) (λ l. none)) malformed
+    by-test Holds (sampler_ok s) _ _ (λ o. by-test Holds (ltb i 32) _ _ (λ l. freed (taken o) (ltb-true i 32 l)) (λ l. none _ refl (taken o) (ltb-false i 32 l))) (λ o. malformed _ refl o)

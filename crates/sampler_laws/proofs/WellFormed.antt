@@ -4,7 +4,6 @@ use native.Mathlib.Nat.{not-suc-le-zero}
 use native.Mathlib.Omega.{arith}
 use Rattle.std.specs.Prelude.{Option, Some, None, Ok, Err}
 use Rattle.refusal.specs.declared.Refusal.{Refusal}
-use Rattle.refusal.specs.declared.Refusal.TheVariants.{OutOfDomain}
 use Rattle.refusal.specs.Numbers.{cause_number, number_of}
 use mathlib.Core.Path.{◌≡◌, refl, sym, ap, ◌∙◌, subst}
 use mathlib.Core.Bool.{Bool, true, false, not, ◌||◌, true≢false}
@@ -20,6 +19,7 @@ use Rattle.rng_util.proofs.Nonzero.{moved-nonzero, Nonzero}
 use Rattle.distribution.specs.declared.Distribution.{Distribution}
 use Rattle.distribution.specs.Shape.{shape_of}
 use Rattle.distribution_words.specs.RoundTrip.{Held}
+use Rattle.common.specs.Random.{sample_random_of}
 use Rattle.common.proofs.Moves.{Moved, random-moves}
 use Rattle.proposal.proofs.Ranges.{random-ranged}
 use Rattle.dimensions.specs.Dimensions.{dimensions_ok}
@@ -87,14 +87,21 @@ module _ (s : Sampler) (g : Well s) where
         serving-ranged s.settings s.dimensions.list s.dimensions.count s.word (held_by s.places trial) r trial (served_history s h) (ready s g) (leb→le 1 s.dimensions.count (goes_on trial past).ok.some)
         (served-accepted s h g.ok.settings p.history) (held-ok trial) f.0 f.1
 
+    -- no draw from a distribution asked is refused, and no serving
+    pub draws : (r : Distribution) → Passed s d h r → (c : Refusal) → sample_random_of s.word r ≡ Err c → ⊥
+    draws r p c x = let f = held-read r p in let z = sym (random-ranged s.word r (ready s g).nonzero f.0 f.1).is ∙ x in cc
+
+    pub serves : (r : Distribution) → Passed s d h r → past_discovery s trial ≡ true → (c : Refusal) → served_now s r trial h ≡ Err c → ⊥
+    serves r p past c x = let z = sym (served r p past).is ∙ x in cc
+
     not-11 : {c : Refusal} → Refusing s d trial h c → cause_number c ≡ 11 → ⊥
-    not-11 (malformed-sampler x) e = T_not (sampler_ok s) (untaken x) (parts-ok s g.ok)
-    not-11 malformed-asked e = omega arith
-    not-11 (bad-history c x) e = let l = refusal-small s.settings h g.ok.settings in let n = ap number_of x in omega arith
-    not-11 no-dimension e = omega arith
-    not-11 (no-draw r p c x) e = let f = held-read r p in let z = sym (random-ranged s.word r (ready s g).nonzero f.0 f.1).is ∙ x in cc
-    not-11 (no_place l) e = omega arith
-    not-11 (no-values r p past c x) e = let z = sym (served r p past).is ∙ x in cc
+    not-11 (malformed-sampler c n x) e = T_not (sampler_ok s) (untaken x) (parts-ok s g.ok)
+    not-11 (malformed-asked c n o q) e = omega arith
+    not-11 (bad-history o r q c x) e = let l = refusal-small s.settings h g.ok.settings in let n = ap number_of x in omega arith
+    not-11 (no-dimension c n r p q x) e = omega arith
+    not-11 (no-draw r p c x) e = absurd (draws r p c x)
+    not-11 (no_place c n r p q l) e = omega arith
+    not-11 (no-values r p past c x) e = absurd (serves r p past c x)
 
     sampled : Good (call_of s (asks d trial h))
     sampled =
@@ -114,8 +121,8 @@ module _ (s : Sampler) (g : Well s) where
 
   close : (trial : ℕ) → Good (call_of s (closes trial))
   close trial =
-      by-close s trial Good (λ e. absurd (T_not (sampler_ok s) (untaken e) (parts-ok s g.ok))) (record { well = g; answered = λ e. omega arith })
-      (λ l. accepted s (freed_of s trial) (with-place s g _ empty_place l (free-ok s.active s.dimensions.list s.dimensions.count empty_place refl) (emptied-once s.places g.typed.places g.ok.once trial l)))
+      by-close s trial Good (λ _ _ e. absurd (T_not (sampler_ok s) (untaken e) (parts-ok s g.ok))) (λ c n _ _. record { well = g; answered = λ e. omega arith })
+      (λ _ l. accepted s (freed_of s trial) (with-place s g _ empty_place l (free-ok s.active s.dimensions.list s.dimensions.count empty_place refl) (emptied-once s.places g.typed.places g.ok.once trial l)))
 
 good : (s : Sampler) (c : Call) → Well s → Good (call_of s c)
 good s (asks d trial h) g = sampled s g d trial h
@@ -123,7 +130,7 @@ good s (closes trial) g = close s g trial
 
 -- ---- as made, and along a run
 
-fresh : (s : Settings) → s.seed < 2 ^ 64 → T (settings_ok s) → Well (fresh_of s)
+pub fresh : (s : Settings) → s.seed < 2 ^ 64 → T (settings_ok s) → Well (fresh_of s)
 fresh s l o = record {
   typed = record { word = l; dimensions = refl; places = refl; held = λ j m. absurd (not-suc-le-zero m); ends = λ j m. absurd (not-suc-le-zero m) };
   ok = record {
@@ -142,14 +149,15 @@ fresh s l o = record {
     empty : (i : ℕ) → i < 32 → place_at (fresh_of s).places i ≡ None
     empty i m = get_or-replicate 32 i empty_place empty_place m
 
-along : (s : Sampler) (cs : List Call) → Well s → Along (λ t c. call_number (call_of t c) ≡ 11 → ⊥) s cs
+-- what holds of every call on a well-formed sampler holds of each call of a run
+pub along : (P : Sampler → Call → Type 0) → ((s : Sampler) (c : Call) → Well s → P s c) → (s : Sampler) (cs : List Call) → Well s → Along P s cs
 unfolding Along
-along s [] g = tt
-along s (c ∷ cs) g = let h = good s c g in (h.answered, along (call_of s c).sampler cs h.well)
+along P f s [] g = tt
+along P f s (c ∷ cs) g = (f s c g, along P f (call_of s c).sampler cs (good s c g).well)
 
 pub well_formed : WellFormed
 well_formed = record {
   fresh = λ s l o. let g = fresh s l o in (g.typed, parts-ok (fresh_of s) g.ok);
   call = λ s c t o. let g = (good s c (well s t o)).well in (g.typed, parts-ok (call_of s c).sampler g.ok);
-  run = λ s l o cs. along (fresh_of s) cs (fresh s l o);
+  run = λ s l o cs. along (λ t c. call_number (call_of t c) ≡ 11 → ⊥) (λ t c g. (good t c g).answered) (fresh_of s) cs (fresh s l o);
 }

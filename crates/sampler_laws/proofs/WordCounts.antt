@@ -17,7 +17,6 @@ use Rattle.sampler_state.specs.State.{holds, trial_place, held_by}
 use Rattle.sampler_state.proofs.Held.{own-or-none, holds-taken}
 use Rattle.std.specs.Prelude.{Option, Some, None, Ok, is_ok}
 use Rattle.refusal.specs.declared.Refusal.{Refusal}
-use Rattle.refusal.specs.declared.Refusal.TheVariants.{UnknownTrial, OutOfDomain}
 use Rattle.rng_util.specs.Draws.{drawn_by}
 use Rattle.arith.proofs.Tests.{taken as passed}
 use Rattle.sampler_state.specs.declared.Place.{Place}
@@ -81,7 +80,7 @@ module _ (s : Sampler) (t : Typed s) (d : Asked) (trial : ℕ) (h : List ℕ) wh
 counts : (s : Sampler) (c : Call) (a : Answer) → Typed s → (call_of s c).answer ≡ Ok a → a.drawn ≡ words_taken s c
 unfolding words_taken new_trial has_model
 counts s (asks d trial h) a t e = rw (ap is_ok e) (sampled s t d trial h a e)
-counts s (closes trial) a t e = by-close s trial (Draws 0) (λ _. refused s 0 OutOfDomain) (refused s 0 UnknownTrial) (λ _. accepted s 0 (freed_of s trial) refl) a e
+counts s (closes trial) a t e = by-close s trial (Draws 0) (λ c _ _. refused s 0 c) (λ c _ _ _. refused s 0 c) (λ _ _. accepted s 0 (freed_of s trial) refl) a e
 
 pub words_drawn : WordsDrawn
 words_drawn = record { moves = λ s c. (call s c).moves; refused = λ s c. (call s c).refused; counts = counts }

@@ -2,7 +2,6 @@
 use mathlib.Core.Path.{◌≡◌, refl, subst}
 use Rattle.std.specs.Prelude.{Ok, Err}
 use Rattle.refusal.specs.declared.Refusal.{Refusal}
-use Rattle.refusal.specs.declared.Refusal.TheVariants.{UnknownTrial, OutOfDomain}
 use Rattle.rng_util.specs.Generator.{moved_of}
 use Rattle.common.proofs.Moves.{Moved, random-moves}
 use Rattle.sampler_state.specs.declared.Sampler.{Sampler}
@@ -30,4 +29,4 @@ pub call : (s : Sampler) (c : Call) → Right s (call_of s c)
 call s (asks d trial h) =
     by-sample s d trial h (Right s) (λ c _. no s c) (λ r _ _ _ x e. accepted s _ (subst (Moved s.word) e (random-moves s.word r)).next)
     (λ r _ _ _ v e. accepted s _ (serving-moves s.settings s.dimensions.list s.dimensions.count s.word (held_by s.places trial) r trial (served_history s h) v e))
-call s (closes trial) = by-close s trial (Right s) (λ _. no s OutOfDomain) (no s UnknownTrial) (λ _. accepted s _ (unfold moved_of in refl))
+call s (closes trial) = by-close s trial (Right s) (λ c _ _. no s c) (λ c _ _ _. no s c) (λ _ _. accepted s _ (unfold moved_of in refl))

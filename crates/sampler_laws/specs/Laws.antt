@@ -1,5 +1,5 @@
 -- What is promised of the calls, for every sampler and every run. Statements only, proved in proofs/.
-use Rattle.std.specs.Prelude.{ℕ, ◌+◌, ◌*◌, ◌^◌, ◌<◌, ◌≡◌, Bool, false, ◌&&◌, ◌||◌, cond, List, T, eqb, ltb, length, get_or, Option, Some, None, Ok, Err, is_ok}
+use Rattle.std.specs.Prelude.{ℕ, ◌+◌, ◌*◌, ◌^◌, ◌<◌, ◌≡◌, Bool, false, not, ◌&&◌, ◌||◌, cond, List, [], ◌∷◌, T, eqb, ltb, length, get_or, Float, Option, Some, None, Ok, Err, is_ok}
 use Rattle.std.specs.Float.{binary64}
 use Rattle.std.specs.Float.Ieee.{fits}
 use Rattle.refusal.specs.declared.Refusal.{Refusal}
@@ -17,13 +17,16 @@ use Rattle.dimensions.specs.Empty.{empty_value}
 use Rattle.history_rows.specs.Tests.{check_of}
 use Rattle.settings.specs.declared.Settings.{Settings}
 use Rattle.settings.specs.Settings.{settings_ok}
+use Rattle.gp_model.specs.Fit.{fit_of}
 use Rattle.proposal.specs.Proposal.{compute_candidate_of}
 use Rattle.sampler_state.specs.declared.Place.{Place}
 use Rattle.sampler_state.specs.declared.Sampler.{Sampler}
 use Rattle.sampler_laws.specs.declared.Answer.{Answer}
+use Rattle.sampler_laws.specs.Causes.{first_cause, cause_of, fit_cause_of}
 use Rattle.sampler_laws.specs.NewTrials.{new_trial, served_history, fit_made, fit_answer, has_model, continuous, choices, BestStored}
 use Rattle.sampler_laws.specs.Runs.{Asked, asks, closes, Call, call_of, call_number, drawn_in, answers_of, end_of, Along, Alike}
-use Rattle.sampler_state.specs.State.{fresh_of, trial_place, held_by, taken_count, stored_ok, sampler_ok}
+use Rattle.sampler_laws.specs.Served.{ServedRight}
+use Rattle.sampler_state.specs.State.{fresh_of, make_of, trial_place, held_by, taken_count, stored_ok, sampler_ok}
 
 -- ---- demand 3, one statement about the whole list
 
@@ -76,6 +79,19 @@ pub record WellFormed : Type 0 where
   pub call : (s : Sampler) (c : Call) → Typed s → T (sampler_ok s) → Typed (call_of s c).sampler × T (sampler_ok (call_of s c).sampler)
   -- so no call of a run meets 11
   pub run : (s : Settings) → s.seed < 2 ^ 64 → T (settings_ok s) → (cs : List Call) → Along (λ t c. call_number (call_of t c) ≡ 11 → ⊥) (fresh_of s) cs
+
+-- ---- refusals, and what an accepted call does
+
+-- a call is refused with the number of its first cause, and accepted where none holds: "All other input is accepted". So are a sampler's making and a fit
+pub record RefusalsTold : Type 0 where
+  pub call : (s : Sampler) (c : Call) → Typed s → call_number (call_of s c) ≡ cause_of s c
+  pub made : (s : Settings) → number_of (make_of s) ≡ first_cause ((1, not (settings_ok s)) ∷ [])
+  pub fit : (x y : List Float) (d : ℕ) (noise : Float) → number_of (fit_of x y d noise) ≡ fit_cause_of x y d noise
+
+-- what is stored is what is received, at every call and along every run
+pub record CallsServed : Type 0 where
+  pub call : (s : Sampler) (c : Call) → Typed s → ServedRight s c
+  pub run : (s : Settings) → s.seed < 2 ^ 64 → T (settings_ok s) → (cs : List Call) → Along ServedRight (fresh_of s) cs
 
 -- inside a call with a history that is not refused
 pub record NothingRefused : Type 0 where

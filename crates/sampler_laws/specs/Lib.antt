@@ -1,4 +1,6 @@
 pub mod Calls
+pub mod Causes
 pub mod Laws
 pub mod NewTrials
 pub mod Runs
+pub mod Served

@@ -1,13 +1,14 @@
 -- A new trial, its model, the points drawn for it and what it stores, in document 01's words. Nothing here speaks of how the search goes. Definitions only.
 use Rattle.std.specs.Prelude.{ℕ, ◌+◌, ◌*◌, ◌-◌, ◌<◌, ◌≡◌, Bool, false, not, ◌&&◌, ◌||◌, cond, List, [], T, eqb, leb, length, get_or, replicate, Float, Some, Result, Ok, is_ok}
 use Rattle.std.specs.Float.{nan, binary64}
-use Rattle.std.specs.Float.Ieee.{lt, le, of_bits}
+use Rattle.std.specs.Float.Ieee.{of_bits}
 use Rattle.refusal.specs.declared.Refusal.{Refusal}
 use Rattle.distribution.specs.Shape.{continuous_of}
 use Rattle.arith.specs.Lists.{list_of}
 use Rattle.rng_util.specs.Draws.{unit_of}
 use Rattle.rng_util.specs.Generator.{stream_of}
 use Rattle.gp_model.specs.declared.Model.{Model}
+use Rattle.search.specs.Earliest.{EarliestHighest}
 use Rattle.search.specs.Search.{score_of}
 use Rattle.history_view.specs.declared.View.{View}
 use Rattle.dimensions.specs.Dimensions.{dimension_at, columns_of}
@@ -73,14 +74,17 @@ pub record Stores (s after : Sampler) (trial : ℕ) (point : List Float) : Type 
   pub decoded : (j : ℕ) → j < s.dimensions.count → T (continuous_of (dimension_at s.dimensions.list j).distribution)
       → decode_of (dimension_at s.dimensions.list j) (get_or point (length (columns_of s.dimensions.list j)) nan) ≡ Ok (stored_at place j)
 
--- "the decoding of one point: the earliest drawn for it whose expected improvement under that model is at least that of every other one drawn for it. With no candidates it is the decoding of all 0.5."
+-- "the earliest drawn for it whose expected improvement under that model is at least that of every other one drawn for it"
+pub record StoresDrawn (s after : Sampler) (trial : ℕ) (m : Model) : Type 0 where
+  pub index : ℕ
+  pub best : EarliestHighest (λ i. score_of m (point_drawn s i)) s.settings.n_candidates index
+  pub stored : Stores s after trial (point_drawn s index)
+
+-- "the decoding of one point: the earliest drawn for it .. With no candidates it is the decoding of all 0.5."
 pub record StoresBest (s after : Sampler) (trial : ℕ) (m : Model) : Type 0 where
   pub none : s.settings.n_candidates ≡ 0
       → Stores s after trial (replicate (continuous s) (of_bits binary64 0x3fe0000000000000))
-  pub found : 0 < s.settings.n_candidates
-      → (c : ℕ) × (c < s.settings.n_candidates) × Stores s after trial (point_drawn s c)
-      × ((i : ℕ) → i < s.settings.n_candidates → T (le (score_of m (point_drawn s i)) (score_of m (point_drawn s c))))
-      × ((i : ℕ) → i < c → T (lt (score_of m (point_drawn s i)) (score_of m (point_drawn s c))))
+  pub found : 0 < s.settings.n_candidates → StoresDrawn s after trial m
 
 -- of a call
 abbrev pub BestStored : Sampler → Call → Type 0

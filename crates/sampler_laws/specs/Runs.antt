@@ -1,7 +1,9 @@
 -- Runs of calls, and two runs whose histories agree. Definitions only.
 use Rattle.refusal.specs.Numbers.{number_of}
-use Rattle.std.specs.Prelude.{ℕ, List, [], ◌∷◌, Result, Ok, Err}
+use Rattle.std.specs.Prelude.{ℕ, List, [], ◌∷◌, Option, Result, Ok, Err}
 use Rattle.refusal.specs.declared.Refusal.{Refusal}
+use Rattle.distribution.specs.declared.Distribution.{Distribution}
+use Rattle.distribution_words.specs.Words.{read_of}
 use Rattle.history_view.specs.Agree.{Agree}
 use Rattle.sampler_laws.specs.declared.Answer.{Answer}
 use Rattle.sampler_laws.specs.declared.Sampled.{Sampled}
@@ -16,6 +18,10 @@ pub record Asked : Type 0 where
   pub log : ℕ
   pub stepped : ℕ
   pub step : ℕ
+
+-- the distribution that they are, where they are well-formed
+abbrev pub read_asked : Asked → Option Distribution
+read_asked d = read_of d.kind d.low d.high d.log d.stepped d.step
 
 -- a call: a distribution asked for a trial with a history, or a trial closed
 pub data Call : Type 0 where

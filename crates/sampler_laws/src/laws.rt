@@ -1,5 +1,5 @@
 // What is promised of every run of the calls.
-ghost use Rattle.sampler_laws.specs.Laws.{EqualRuns, WordsDrawn, WellFormed, NothingRefused, PlacesCounted};
+ghost use Rattle.sampler_laws.specs.Laws.{EqualRuns, WordsDrawn, WellFormed, RefusalsTold, CallsServed, NothingRefused, PlacesCounted};
 
 // Two runs whose histories agree answer the same and end in the same sampler, and every new trial with a model stores the best point drawn for it.
 pub fn equal_runs()
@@ -16,6 +16,18 @@ pub fn words_drawn()
 #[tactic(auto, using(crate::proofs::WellFormed::well_formed))]
 pub fn well_formed()
     ensures { WellFormed }
+{}
+
+// A call is refused with the number of its first cause in document 01's table, and accepted where none holds.
+#[tactic(auto, using(crate::proofs::Causes::refusals_told))]
+pub fn refusals_told()
+    ensures { RefusalsTold }
+{}
+
+// What an accepted call answers is what is stored, or drawn from the distribution asked, and it leaves all else as it was.
+#[tactic(auto, using(crate::proofs::Served::calls_served))]
+pub fn calls_served()
+    ensures { CallsServed }
 {}
 
 // Inside a call with a history that is not refused, a fit is refused only with 12 or 13, and nothing else is.

@@ -25,7 +25,7 @@ use Rattle.refusal.specs.declared.Refusal.TheVariants.{OutOfDomain}
 use Rattle.gp_model.specs.declared.Model.{Model}
 use Rattle.search.specs.declared.Candidate.{Candidate}
 use Rattle.search.specs.declared.Search.{Search}
-use Rattle.search.specs.Earliest.{drawn_of, Earliest}
+use Rattle.search.specs.Earliest.{drawn_of, BestDrawn, Earliest}
 use Rattle.prediction.specs.Predict.{posterior_at}
 use Rattle.search.specs.Search.{point_of, score_of, start_of, candidate_of, advance_of, found_of, optimum_of, search_domain, optimize_acquisition_of}
 
@@ -122,36 +122,31 @@ module _ (m : Model) (w : ℕ) (candidates : ℕ) where
   at-drawn : (c : ℕ) → c < candidates → get_or scores c nan ≡ score_of m (drawn c)
   at-drawn c h = at-score c h ∙ ap (score_of m) (sym (at-word m.d candidates w c h))
 
-  Found : List Float → Type 0
-  Found x =
-      (c : ℕ) × (c < candidates) × (x ≡ padded 20 (drawn c))
-      × ((k : ℕ) → k < candidates → T (le (score_of m (drawn k)) (score_of m (drawn c))))
-      × ((k : ℕ) → k < c → T (lt (score_of m (drawn k)) (score_of m (drawn c))))
-
-  found : 0 < candidates → Found (padded 20 (point (best_at scores candidates)))
-  unfolding Found
-  found h = elim bests.first [ inl e ↦ absurd (some h e) | inr q ↦ (best_at scores candidates, q.0, ap (padded 20) (sym (at-word m.d candidates w (best_at scores candidates) q.0)), most q, less q) ]
+  found : 0 < candidates → BestDrawn m candidates w (padded 20 (point (best_at scores candidates)))
+  found h = elim bests.first [
+    | inl e ↦ absurd (some h e)
+    | inr q ↦ (let b = q.0 in
+        let same : best_of scores candidates ≡ score_of m (drawn c) = sym q.1 ∙ at-drawn c b in
+        record {
+          index = c;
+          best = record {
+            below = b;
+            highest = λ k l. subst (λ (v : Float). T (le v (score_of m (drawn c)))) (at-drawn k l) (subst (λ (b : Float). T (le (get_or scores k nan) b)) same (bests.most k l));
+            earliest = λ k l. subst (λ (v : Float). T (lt v (score_of m (drawn c)))) (at-drawn k (omega arith)) (subst (λ (b : Float). T (lt (get_or scores k nan) b)) same (q.2 k l));
+          };
+          point = ap (padded 20) (sym (at-word m.d candidates w c b));
+        })
+  ]
     where
       c : ℕ
       c = best_at scores candidates
-
-      same : (c < candidates) × (get_or scores c nan ≡ best_of scores candidates) × ((k : ℕ) → k < c → T (lt (get_or scores k nan) (best_of scores candidates))) → best_of scores candidates ≡ score_of m (drawn c)
-      same q = sym q.1 ∙ at-drawn c q.0
-
-      most : (q : (c < candidates) × (get_or scores c nan ≡ best_of scores candidates) × ((k : ℕ) → k < c → T (lt (get_or scores k nan) (best_of scores candidates)))) (k : ℕ) → k < candidates → T (le (score_of m (drawn k)) (score_of m (drawn c)))
-      most q k l = subst (λ (v : Float). T (le v (score_of m (drawn c)))) (at-drawn k l) (subst (λ (b : Float). T (le (get_or scores k nan) b)) (same q) (bests.most k l))
-
-      less : (q : (c < candidates) × (get_or scores c nan ≡ best_of scores candidates) × ((k : ℕ) → k < c → T (lt (get_or scores k nan) (best_of scores candidates)))) (k : ℕ) → k < c → T (lt (score_of m (drawn k)) (score_of m (drawn c)))
-      less q k l =
-          let b = q.0 in
-          subst (λ (v : Float). T (lt v (score_of m (drawn c)))) (at-drawn k (omega arith)) (subst (λ (b : Float). T (lt (get_or scores k nan) b)) (same q) (q.2 k l))
 
 pub earliest : (m : Model) (candidates w : ℕ) → Earliest m candidates w (optimum_of m candidates w)
 unfolding optimum_of advance_of
 earliest m zero w = record { moved = unfold moved_of in rw zero-mul; none = λ _. refl; found = λ h. absurd (not-suc-le-zero h) }
 earliest m (suc n) w =
     subst (λ (s : Search). Earliest m (suc n) w (found_of s)) (sym (state m w (suc n) n (omega arith)))
-    (record { moved = refl; none = λ e. absurd (suc-ne-zero n e); found = λ h. unfold Found in found m w (suc n) h })
+    (record { moved = refl; none = λ e. absurd (suc-ne-zero n e); found = found m w (suc n) })
 
 -- ---- the search, in its domain
 pub optimizes : (m : Model) (dims candidates w : ℕ) → T (search_domain m dims w) → optimize_acquisition_of m dims candidates w ≡ Ok (optimum_of m candidates w)

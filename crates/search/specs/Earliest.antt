@@ -13,15 +13,23 @@ use Rattle.search.specs.Search.{score_of}
 abbrev pub drawn_of : ℕ → List ℕ → ℕ → List Float
 drawn_of d words c = list_of (λ j. unit_of (get_or words (c * d + j) 0)) d
 
+-- of n scores c's is at least every other's, and above every earlier one's
+pub record EarliestHighest (score : ℕ → Float) (n c : ℕ) : Type 0 where
+  pub below : c < n
+  pub highest : (i : ℕ) → i < n → T (le (score i) (score c))
+  pub earliest : (i : ℕ) → i < c → T (lt (score i) (score c))
+
+-- x is the point drawn with the earliest highest score, of that many candidates at the word w
+pub record BestDrawn (m : Model) (candidates w : ℕ) (x : List Float) : Type 0 where
+  pub index : ℕ
+  pub best : EarliestHighest (λ i. score_of m (drawn_of m.d (stream_of (candidates * m.d) w) i)) candidates index
+  pub point : x ≡ padded 20 (drawn_of m.d (stream_of (candidates * m.d) w) index)
+
 -- r is right for a search of that many candidates at the word w
 pub record Earliest (m : Model) (candidates w : ℕ) (r : Candidate) : Type 0 where
   -- the generator has moved candidates × columns times
   pub moved : r.next ≡ moved_of (candidates * m.d) w
   -- without a candidate the point is all 0.5
   pub none : candidates ≡ 0 → r.x ≡ padded 20 (replicate m.d (of_bits binary64 0x3fe0000000000000))
-  -- else it is a point drawn, whose score is at least every other's and above every earlier one's
-  pub found : 0 < candidates
-      → (c : ℕ) × (c < candidates)
-      × (r.x ≡ padded 20 (drawn_of m.d (stream_of (candidates * m.d) w) c))
-      × ((k : ℕ) → k < candidates → T (le (score_of m (drawn_of m.d (stream_of (candidates * m.d) w) k)) (score_of m (drawn_of m.d (stream_of (candidates * m.d) w) c))))
-      × ((k : ℕ) → k < c → T (lt (score_of m (drawn_of m.d (stream_of (candidates * m.d) w) k)) (score_of m (drawn_of m.d (stream_of (candidates * m.d) w) c))))
+  -- else it is the best point drawn
+  pub found : 0 < candidates → BestDrawn m candidates w r.x
