@@ -1,4 +1,4 @@
-// The text of `propose`, read line by line.
+// The text of `propose`, read line by line, and in pieces of any length.
 #![tactic(auto)]
 
 pub mod steps;

@@ -1,5 +1,6 @@
 // One line after the other.
-ghost use Rattle.std.specs.Prelude.{◌≡◌, cond, List, ℕ, min, length};
+ghost use Rattle.std.specs.Prelude.{◌≡◌, cond, List, ℕ};
+ghost use Rattle.propose_text.specs.Array.{row_stored, history_stored, array_of};
 ghost use Rattle.refusal.specs.declared.Refusal.{Refusal};
 ghost use Rattle.text_laws.specs.Steps.{Reading, reading_of, stepped_of, awaits, ends, named, settings_of, settings_line, row_line, history_line, call_line, history_named, sampled_of, value_line, told_line, answered_of, start_of, step_of, finish_at, finish_of};
 ghost use Rattle.text_laws.specs.declared.Event.{Event};
@@ -14,24 +15,29 @@ use slots::{ROW_HEAD, SLOT_WORDS};
 use text_laws::{Event, Reader, Stage, Step};
 
 // Another line is awaited, and nothing is written.
-fn awaiting(reader: Reader, event: Event) -> Step
-    ensures { (h : List ℕ) → stepped_of result h ≡ awaits reader.stage event (reading_of reader h) }
+fn awaiting(stage: Stage, event: Event, r: Reader) -> Step
+    ensures { (h : List ℕ) → stepped_of result h ≡ awaits stage event (reading_of r h) }
 {
     Step {
-        reader,
+        reader: Reader {
+            stage,
+            sampler: r.sampler,
+            count: r.count,
+        },
         event,
         line: None,
     }
 }
 
 // The run ends with a refusal.
-fn ending(refusal: Refusal, reader: Reader) -> Step
-    ensures { (h : List ℕ) → stepped_of result h ≡ ends refusal (reading_of reader h) }
+pub(crate) fn ending(refusal: Refusal, r: Reader) -> Step
+    ensures { (h : List ℕ) → stepped_of result h ≡ ends refusal (reading_of r h) }
 {
     Step {
         reader: Reader {
             stage: Stage::Ended,
-            ..reader
+            sampler: r.sampler,
+            count: r.count,
         },
         event: Event::Refused(refusal),
         line: Some(propose_lines::answer_line(0, 0, refusal.number(), 0)),
@@ -43,22 +49,20 @@ fn after_names(ok: bool, stage: Stage, r: Reader) -> Step
     ensures { (h : List ℕ) → stepped_of result h ≡ named ok stage (reading_of r h) }
 {
     if ok {
-        return awaiting(Reader { stage, ..r }, Event::Names);
+        return awaiting(stage, Event::Names, r);
     }
     ending(Refusal::Text, r)
 }
 
-// The settings that five words are.
-fn settings_of(words: [u64; 5]) -> Settings
+// Settings with each of the five set to a word.
+fn set_all(s: Settings, words: [u64; 5]) -> Settings
     ensures { result ≡ settings_of words }
 {
-    Settings {
-        n_startup_trials: words[0],
-        n_candidates: words[1],
-        noise_variance: arith::float_of_word(words[2]),
-        seed: words[3],
-        slots: words[4],
-    }
+    s.n_startup_trials(words[0])
+        .n_candidates(words[1])
+        .noise_variance(arith::float_of_word(words[2]))
+        .seed(words[3])
+        .slots(words[4])
 }
 
 // The line of the settings: a sampler is made of them.
@@ -70,15 +74,15 @@ fn settings_line(r: Reader, line: &[u8]) -> Step
     if !propose_lines::read_words(line, 5, &mut words, 0) {
         return ending(Refusal::Text, r);
     }
-    match sampler_state::build(settings_of(words)) {
-        Ok(sampler) => awaiting(
-            Reader {
-                stage: Stage::HistoryNames,
+    match sampler_state::build(set_all(r.sampler.settings, words)) {
+        Ok(sampler) => {
+            let made = Reader {
+                stage: r.stage,
                 sampler,
-                ..r
-            },
-            Event::Settings,
-        ),
+                count: r.count,
+            };
+            awaiting(Stage::HistoryNames, Event::Settings, made)
+        }
         Err(refusal) => ending(refusal, r),
     }
 }
@@ -91,46 +95,36 @@ fn has_history_names(r: &Reader, line: &[u8]) -> bool
     slots <= 20 && propose_lines::is_history(line, slots)
 }
 
-// How many of the array's words are the history's.
-fn held(count: usize) -> usize
-    ensures { result ≡ min count 8192 }
-{
-    count.min(8192)
-}
-
 // A row: its words go behind those that are there, as long as the array has room for them.
 #[tactic(auto, unfolding(text_laws::specs::Steps::row_line))]
 fn row_line(r: Reader, line: &[u8], history: &mut [u64; 8192]) -> Step
-    ensures { stepped_of result history.new ≡ row_line (reading_of r history.old) line.now }
+    ensures step { stepped_of result history.new ≡ row_line (reading_of r history.old) line.now }
+    ensures array { history.new ≡ row_stored (reading_of r history.old) line.now history.old }
 {
     let slots = r.sampler.settings.slots;
-    let at = held(r.count);
     if slots > 20 {
-        return ending(Refusal::Text, Reader { count: at, ..r });
+        return ending(Refusal::Text, r);
     }
     let k = ROW_HEAD + SLOT_WORDS * slots as usize;
-    if !propose_lines::read_words(line, k, history, at) {
-        return ending(Refusal::Text, Reader { count: at, ..r });
+    if !propose_lines::read_words(line, k, history, r.count) {
+        return ending(Refusal::Text, r);
     }
     let more = Reader {
-        stage: Stage::History,
-        count: at + k,
-        ..r
+        stage: r.stage,
+        sampler: r.sampler,
+        count: r.count + k,
     };
-    awaiting(more, Event::Row)
+    awaiting(Stage::History, Event::Row, more)
 }
 
 // A row, or the names of the calls.
 #[tactic(auto, unfolding(text_laws::specs::Steps::history_line))]
 fn history_line(r: Reader, line: &[u8], history: &mut [u64; 8192]) -> Step
-    ensures { stepped_of result history.new ≡ history_line (reading_of r history.old) line.now }
+    ensures step { stepped_of result history.new ≡ history_line (reading_of r history.old) line.now }
+    ensures array { history.new ≡ history_stored (reading_of r history.old) line.now history.old }
 {
     if propose_lines::is_calls(line) {
-        let calls = Reader {
-            stage: Stage::Calls,
-            ..r
-        };
-        return awaiting(calls, Event::CallsBegin);
+        return awaiting(Stage::Calls, Event::CallsBegin, r);
     }
     row_line(r, line, history)
 }
@@ -158,26 +152,24 @@ fn told_line(trial: u64, answer: Result<Answer, Refusal>) -> [u8; 68]
 }
 
 // An answer's line, and the sampler that it handed back.
-fn answered(trial: u64, a: Sampled, count: usize) -> Step
-    ensures { (h : List ℕ) → stepped_of result h ≡ answered_of trial a (reading_of (record { stage = Stage.Calls; sampler = a.sampler; count = count }) h) }
+fn answered(trial: u64, a: Sampled, r: &Reader) -> Step
+    ensures { (h : List ℕ) → stepped_of result h ≡ answered_of trial a (reading_of r.now h) }
 {
     Step {
         reader: Reader {
             stage: Stage::Calls,
             sampler: a.sampler,
-            count,
+            count: r.count,
         },
-        event: Event::Call,
+        event: Event::Call(trial),
         line: Some(told_line(trial, a.answer)),
     }
 }
 
 // What the sampler answers to the seven words of a call.
-#[tactic(auto, using(crate::proofs::Held::held_part))]
 fn called(r: &Reader, words: [u64; 7], history: &[u64; 8192]) -> Sampled
     ensures { result ≡ sampled_of (reading_of r.now history.now) words }
 {
-    let n = held(r.count);
     sampler::sample(
         r.sampler,
         Words {
@@ -189,7 +181,7 @@ fn called(r: &Reader, words: [u64; 7], history: &[u64; 8192]) -> Sampled
             step: words[6],
         },
         words[0],
-        &history[..n],
+        &history[..r.count],
     )
 }
 
@@ -203,24 +195,17 @@ fn call_line(r: Reader, line: &[u8], history: &[u64; 8192]) -> Step
         return ending(Refusal::Text, r);
     }
     let a = called(&r, words, history);
-    answered(words[0], a, r.count)
+    answered(words[0], a, &r)
 }
 
-// A reader at the start of the input.
+// A reader at the start of the input: the defaults, and no seed.
 #[tactic(auto, unfolding(text_laws::specs::Steps::start_of))]
 pub fn start() -> Reader
     ensures { (h : List ℕ) → reading_of result h ≡ start_of }
 {
-    let sampler = sampler_state::fresh(Settings {
-        n_startup_trials: 0,
-        n_candidates: 0,
-        noise_variance: 0.0,
-        seed: 0,
-        slots: 0,
-    });
     Reader {
         stage: Stage::SettingsNames,
-        sampler,
+        sampler: sampler_state::fresh(Settings::new(0)),
         count: 0,
     }
 }
@@ -228,7 +213,8 @@ pub fn start() -> Reader
 // One line of the input, without its newline. The array holds the history from row to row.
 #[tactic(auto, unfolding(text_laws::specs::Steps::step_of))]
 pub fn read_line(r: Reader, line: &[u8], history: &mut [u64; 8192]) -> Step
-    ensures { stepped_of result history.new ≡ step_of (reading_of r history.old) line.now }
+    ensures step { stepped_of result history.new ≡ step_of (reading_of r history.old) line.now }
+    ensures array { history.new ≡ array_of (reading_of r history.old) line.now history.old }
 {
     match r.stage {
         Stage::SettingsNames => after_names(propose_lines::is_settings(line), Stage::Settings, r),
@@ -236,7 +222,7 @@ pub fn read_line(r: Reader, line: &[u8], history: &mut [u64; 8192]) -> Step
         Stage::HistoryNames => after_names(has_history_names(&r, line), Stage::History, r),
         Stage::History => history_line(r, line, history),
         Stage::Calls => call_line(r, line, history),
-        Stage::Ended => awaiting(r, Event::Nothing),
+        Stage::Ended => awaiting(Stage::Ended, Event::Nothing, r),
     }
 }
 
@@ -257,11 +243,7 @@ pub fn finish(r: Reader, rest: &[u8]) -> Step
     ensures { (h : List ℕ) → stepped_of result h ≡ finish_of (reading_of r h) rest.now }
 {
     if may_end(r.stage, rest) {
-        let ended = Reader {
-            stage: Stage::Ended,
-            ..r
-        };
-        return awaiting(ended, Event::Nothing);
+        return awaiting(Stage::Ended, Event::Nothing, r);
     }
     ending(Refusal::Text, r)
 }

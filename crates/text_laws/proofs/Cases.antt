@@ -21,6 +21,7 @@ use Rattle.text_laws.specs.declared.Event.{Event}
 use Rattle.text_laws.specs.declared.Stage.{Stage}
 use Rattle.propose_lines.specs.Lines.{word_at, is_words, words_in, answer_line}
 use Rattle.propose_lines.specs.Names.{slots_names, history_names, answer_names, same_bytes}
+use Rattle.text_laws.specs.Pieces.{Partial, begun, told_step, no_step, byte_of, piece_of, pieces_of, taken_of}
 use Rattle.text_laws.specs.Steps.{reading_of, stepped_of, awaits, ends, settings_of, settings_line, row_words, row_line, history_line, sampled_of, told_line, answered_of, call_line, no_sampler, start_of, step_of, finish_of}
 use Rattle.text_laws.specs.Texts.{read_of, ended, written_of, line_of, lines_of, Sized, Words, Table, joined, Document, WellFormed, head_of, text_of, calls_of, answer_lines, answers_to}
 use Rattle.text_laws.proofs.Tables.{at}
@@ -106,15 +107,20 @@ Written =
     (answer_line 7 3 1 1 ≡ take 68 output)
     × (answer_lines ((7 ∷ []) ∷ (7 ∷ []) ∷ []) (Ok (record { value = Some (ParamValue.Categorical 1); drawn = 1 }) ∷ Ok (record { value = Some (ParamValue.Int (pos 5)); drawn = 1 }) ∷ []) ≡ output)
     × ((answered_of 7 (record { answer = Err Refusal.Malformed; sampler = no_sampler }) start_of).written ≡ answer_line 7 0 2 0)
+    × ((answered_of 7 (record { answer = Err Refusal.Malformed; sampler = no_sampler }) start_of).event ≡ Event.Call 7)
     × (told_line 7 (Ok (record { value = None; drawn = 0 })) ≡ answer_line 7 0 0 0)
     × ((ends Refusal.Text start_of).written ≡ 48 ∷ 48 ∷ 48 ∷ 48 ∷ 48 ∷ 48 ∷ 48 ∷ 48 ∷ 48 ∷ 48 ∷ 48 ∷ 48 ∷ 48 ∷ 48 ∷ 48 ∷ 48 ∷ 32 ∷ 48 ∷ 48 ∷ 48 ∷ 48 ∷ 48 ∷ 48 ∷ 48 ∷ 48 ∷ 48 ∷ 48 ∷ 48 ∷ 48 ∷ 48 ∷ 48 ∷ 48 ∷ 48 ∷ 32 ∷ 48 ∷ 48 ∷ 48 ∷ 48 ∷ 48 ∷ 48 ∷ 48 ∷ 48 ∷ 48 ∷ 48 ∷ 48 ∷ 48 ∷ 48 ∷ 48 ∷ 48 ∷ 101 ∷ 32 ∷ 48 ∷ 48 ∷ 48 ∷ 48 ∷ 48 ∷ 48 ∷ 48 ∷ 48 ∷ 48 ∷ 48 ∷ 48 ∷ 48 ∷ 48 ∷ 48 ∷ 48 ∷ 48 ∷ 10 ∷ [])
     × ((ends Refusal.Settings start_of).reading.stage ≡ Stage.Ended)
 
 written-lines : Written
 unfolding answer_line answer_lines last_digits
-written-lines = (refl, refl, refl, refl, refl, refl)
+written-lines = (refl, refl, refl, refl, refl, refl, refl)
 
 -- ---- line by line
+
+-- a run that has ended
+abbrev ended_run : Partial
+ended_run = record { reading = record { stage = Stage.Ended; sampler = no_sampler; history = [] }; line = [] }
 
 -- a sampler of one slot, as the sample has it
 abbrev made : Sampler
@@ -123,9 +129,9 @@ made = fresh_of (settings_of (10 ∷ 0 ∷ 0 ∷ 1 ∷ 1 ∷ []))
 -- a reader's part of its array, and what a step with a line and one without write
 abbrev Readers : Type 0
 Readers =
-    (reading_of (record { stage = Stage.History; sampler = made; count = 2 }) (5 ∷ 6 ∷ 7 ∷ []) ≡ at Stage.History made (5 ∷ 6 ∷ []))
-    × ((stepped_of (record { reader = record { stage = Stage.History; sampler = made; count = 2 }; event = Event.Call; line = Some (48 ∷ 49 ∷ []) }) []).written ≡ 48 ∷ 49 ∷ [])
-    × ((stepped_of (record { reader = record { stage = Stage.History; sampler = made; count = 2 }; event = Event.Row; line = None }) []).written ≡ [])
+    (reading_of (record { stage = Stage.History; sampler = made; count = 2; within = omega arith }) (5 ∷ 6 ∷ 7 ∷ []) ≡ at Stage.History made (5 ∷ 6 ∷ []))
+    × ((stepped_of (record { reader = record { stage = Stage.History; sampler = made; count = 2; within = omega arith }; event = Event.Call 7; line = Some (48 ∷ 49 ∷ []) }) []).written ≡ 48 ∷ 49 ∷ [])
+    × ((stepped_of (record { reader = record { stage = Stage.History; sampler = made; count = 2; within = omega arith }; event = Event.Row; line = None }) []).written ≡ [])
 
 readers : Readers
 readers = (refl, refl, refl)
@@ -248,3 +254,47 @@ Texts =
 texts : Texts
 unfolding written_of read_of start_of step_of finish_of same_bytes
 texts = (refl, refl, refl, refl, refl)
+
+-- ---- pieces
+
+-- a byte inside a line, a newline, and both after the end
+abbrev Bytes : Type 0
+Bytes =
+    (byte_of begun 83 ≡ no_step (record { reading = start_of; line = 83 ∷ [] }))
+    × (byte_of begun 10 ≡ told_step (ends Refusal.Text start_of))
+    × (byte_of ended_run 83 ≡ no_step ended_run)
+    × (byte_of ended_run 10 ≡ no_step ended_run)
+
+bytes : Bytes
+unfolding byte_of start_of step_of same_bytes
+bytes = (refl, refl, refl, refl)
+
+-- a byte and a newline on a line that is as long as any table's, and a byte on one that is shorter by one
+module _ (line : List ℕ) where
+  calls_at : Partial
+  calls_at = record { reading = at Stage.Calls made []; line = line }
+
+  one-too-many : length line ≡ 2770 → byte_of calls_at 48 ≡ told_step (ends Refusal.Text (at Stage.Calls made []))
+  unfolding byte_of calls_at
+  one-too-many e = rw e
+
+  ended-in-time : length line ≡ 2770 → byte_of calls_at 10 ≡ told_step (step_of (at Stage.Calls made []) line)
+  unfolding byte_of calls_at
+  ended-in-time e = refl
+
+  just-held : length line ≡ 2769 → byte_of calls_at 48 ≡ no_step (record { reading = at Stage.Calls made []; line = line ++ (48 ∷ []) })
+  unfolding byte_of calls_at
+  just-held e = rw e
+
+-- the names line of the settings in two pieces, nothing in between; a piece up to its first newline
+abbrev Pieces : Type 0
+Pieces =
+    (pieces_of begun (take 20 sample ∷ [] ∷ take 16 (drop 20 sample) ∷ []) ≡ record { text = record { reading = at Stage.Settings no_sampler []; line = [] }; written = [] })
+    × ((piece_of begun (10 ∷ 83 ∷ [])).written ≡ answer_line 0 0 14 0 ++ [])
+    × (taken_of begun (83 ∷ 10 ∷ 83 ∷ []) ≡ record { text = record { reading = (ends Refusal.Text start_of).reading; line = [] }; used = 2; step = Some (ends Refusal.Text start_of) })
+    × (taken_of begun (83 ∷ []) ≡ record { text = record { reading = start_of; line = 83 ∷ [] }; used = 1; step = None })
+    × (taken_of ended_run (83 ∷ 10 ∷ []) ≡ record { text = ended_run; used = 2; step = None })
+
+pieces : Pieces
+unfolding byte_of piece_of pieces_of taken_of start_of step_of same_bytes
+pieces = (refl, refl, refl, refl, refl)

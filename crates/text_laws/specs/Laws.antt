@@ -6,7 +6,8 @@ use Rattle.text_laws.specs.declared.Stage.{Stage}
 use Rattle.propose_lines.specs.Lines.{answer_line}
 use Rattle.propose_lines.specs.Names.{answer_names}
 use Rattle.text_laws.specs.Steps.{Reading, settings_of, ends, step_of}
-use Rattle.text_laws.specs.Texts.{Document, WellFormed, Words, ended, line_of, head_of, text_of, answers_to, written_of}
+use Rattle.text_laws.specs.Texts.{Document, WellFormed, Words, ended, line_of, joined, head_of, text_of, answers_to, written_of}
+use Rattle.text_laws.specs.Pieces.{begun, pieces_of, end_of}
 
 -- something that does not go on with a call line
 pub record NoCall (rest : List ℕ) : Type 0 where
@@ -30,3 +31,7 @@ pub record TextAnswers : Type 0 where
 -- "a line longer than any table has" is 14 before its end is read
 abbrev pub LongLines : Type 0
 LongLines = (r : Reading) (line : List ℕ) → (r.stage ≡ Stage.Ended → ⊥) → 2770 < length line → step_of r line ≡ ends Refusal.Text r
+
+-- whatever pieces a text comes in: what is written first, piece by piece and at the end is what is written for the pieces joined
+abbrev pub PiecesAnswered : Type 0
+PiecesAnswered = (pieces : List (List ℕ)) → ended answer_names ++ ((pieces_of begun pieces).written ++ (end_of (pieces_of begun pieces).text).written) ≡ written_of (joined pieces)

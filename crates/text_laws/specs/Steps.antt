@@ -7,6 +7,7 @@ use Rattle.refusal.specs.Numbers.{cause_number}
 use Rattle.distribution.specs.declared.ParamValue.{ParamValue}
 use Rattle.distribution.specs.Value.{kind_of, word_of}
 use Rattle.settings.specs.declared.Settings.{Settings}
+use Rattle.settings.specs.Settings.{new_of}
 use Rattle.sampler_laws.specs.declared.Answer.{Answer}
 use Rattle.sampler_laws.specs.declared.Sampled.{Sampled}
 use Rattle.sampler_state.specs.declared.Sampler.{Sampler}
@@ -111,7 +112,7 @@ told_line trial (Err e) = answer_line trial 0 (cause_number e) 0
 
 abbrev pub answered_of : ℕ → Sampled → Reading → Stepped
 answered_of trial a r =
-    record { reading = record { stage = Stage.Calls; sampler = a.sampler; history = r.history }; event = Event.Call; written = told_line trial a.answer }
+    record { reading = record { stage = Stage.Calls; sampler = a.sampler; history = r.history }; event = Event.Call trial; written = told_line trial a.answer }
 
 unfoldable pub call_line : Reading → List ℕ → Stepped
 call_line r line = cond (is_words 7 line) (answered_of (get_or (words_in 7 line) 0 0) (sampled_of r (words_in 7 line)) r) (ends Refusal.Text r)
@@ -126,9 +127,9 @@ line_at Stage.Ended r line = awaits Stage.Ended Event.Nothing r
 
 -- ---- what a reader does
 
--- no settings are read yet: a sampler of zeros
+-- no settings are read yet: "Defaults belong to the settings themselves", and the seed, which "has none", is 0
 abbrev pub no_sampler : Sampler
-no_sampler = fresh_of (record { n_startup_trials = 0; n_candidates = 0; noise_variance = of_bits binary64 0; seed = 0; slots = 0 })
+no_sampler = fresh_of (new_of 0)
 
 unfoldable pub start_of : Reading
 start_of = record { stage = Stage.SettingsNames; sampler = no_sampler; history = [] }

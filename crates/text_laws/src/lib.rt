@@ -4,6 +4,8 @@
 
 pub mod laws;
 
+ghost use Rattle.std.specs.Prelude.{◌≤◌};
+
 use refusal::Refusal;
 use sampler_state::Sampler;
 
@@ -25,17 +27,18 @@ pub struct Reader {
     pub sampler: Sampler,
     // Kept: fixed memory (document 01), so that the array of 8,192 words is lent from line to line.
     pub count: usize,
+    pub ghost within: { count ≤ 8192 },
 }
 
-// What a line was: names, the settings, a row, the names that begin the calls, a call, a refusal that ends the run, or
-// nothing more of a text.
+// What a line was: names, the settings, a row, the names that begin the calls, a call with its trial, a refusal that
+// ends the run, or nothing more of a text.
 #[derive(Clone, Copy, Debug, PartialEq, Eq)]
 pub enum Event {
     Names,
     Settings,
     Row,
     CallsBegin,
-    Call,
+    Call(u64),
     Refused(Refusal),
     Nothing,
 }
