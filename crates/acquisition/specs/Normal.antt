@@ -1,4 +1,4 @@
--- The standard normal density and distribution function, by Abramowitz and Stegun, 26.2.1 and 26.2.17, in the Rust's order of operations. Each answers the refusal of an exp out of its domain; proofs/Accepted.antt shows that there is none. Definitions only.
+-- The standard normal density and distribution function, by Abramowitz and Stegun, 26.2.1 and 26.2.17, in the Rust's order of operations. Each answers the refusal of an exp out of its domain; specs/Accepts states that there is none. Definitions only.
 use Rattle.refusal.specs.declared.Refusal.{Refusal}
 use Rattle.std.specs.Prelude.{cond, pos, negsuc, Float, Result, Ok}
 use Rattle.std.specs.Float.{binary64}

@@ -1,10 +1,8 @@
 -- Forward, then backward: each lane is the plain solution. Assumes nothing.
-use Rattle.std.specs.Prelude.{Ok}
 use mathlib.Core.Path.{◌≡◌, sym, ◌∙◌}
 use mathlib.Core.List.{List}
 use Prim.Native.Nat.{ℕ, ◌≤◌, ◌<◌}
 use native.Mathlib.Omega.{arith}
-use borrow.Author.Tests.{le-leb}
 use lib.ListN.{length, get_or}
 use lib.Seq.{ext_get_or}
 use lib.Ieee.{Float, nan}
@@ -14,7 +12,7 @@ use Rattle.factor.specs.Solve.{forward_at, forward_of, backward_of, solution_of}
 use Rattle.factor.proofs.Back.{back-length, solution-found}
 use Rattle.lanes.specs.Rows.{lane_of, lanes_of, rows_of}
 use Rattle.lanes.proofs.Rows.{eight-same, lanes_at}
-use Rattle.lanes.specs.Solving.{solve_lanes_of}
+use Rattle.lanes.specs.Solving.{solutions_of}
 
 -- a list by its elements
 pub list-again : (xs : List Float) (n : ℕ) → length xs ≡ n → list_of (λ i. get_or xs i nan) n ≡ xs
@@ -38,7 +36,6 @@ module _ (l : List Float) (b : List (List Float)) (n : ℕ) (top : n ≤ 100) wh
           rw (lane-of-lanes first n p g (grown-length (forward_at l (lane_of b 100 p)) n), solution-found l (lane_of b 100 p) n top)
           (sym (padded-at 100 (backward_of l (first p) n n) i (rw (back-length l (first p) n n) h)))
 
-  -- up to a hundred rows that is the answer
-  pub answered : Ok (rows_of (lanes_of (λ p. backward_of l (lane_of (rows_of (lanes_of first n)) n p) n n) n)) ≡ solve_lanes_of l b n
-  unfolding solve_lanes_of
-  answered = rw (solved-lanes, le-leb n 100 top)
+  -- that is the answer
+  pub answered : rows_of (lanes_of (λ p. backward_of l (lane_of (rows_of (lanes_of first n)) n p) n n) n) ≡ solutions_of l b n
+  answered = rw solved-lanes

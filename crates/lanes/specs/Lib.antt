@@ -1,3 +1,5 @@
+pub mod Kernels
+pub mod Posteriors
 pub mod Rows
 pub mod Solving
 pub mod Sums

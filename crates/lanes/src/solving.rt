@@ -5,9 +5,7 @@ ghost use Rattle.std.specs.Float.Ieee.{div, sub, mul};
 ghost use Rattle.factor.specs.Triangle.{entry, less_of};
 ghost use Rattle.factor.specs.Solve.{forward_of, backward_of};
 ghost use Rattle.lanes.specs.Rows.{cell, eight_of, lane_of, lanes_of, rows_of};
-ghost use Rattle.lanes.specs.Solving.{solve_lanes_of};
-
-use refusal::Refusal;
+ghost use Rattle.lanes.specs.Solving.{solutions_of};
 
 // s less v times x, lane by lane.
 #[tactic(auto, using(arith::proofs::Eights::eight_floats))]
@@ -88,18 +86,11 @@ fn backward(l: &[f64; 5050], z: &[[f64; 8]; 100], n: usize) -> [[f64; 8]; 100]
     x
 }
 
-// x with L Lᵀ x = b for each lane, of the first n rows: 11 over 100 rows.
-#[tactic(auto, unfolding(crate::specs::Solving::solve_lanes_of))]
-pub fn solve(
-    l: &[f64; 5050],
-    b: &[[f64; 8]; 100],
-    n: usize,
-) -> Result<[[f64; 8]; 100], Refusal>
-    ensures { result ≡ solve_lanes_of l.now b.now n }
+// x with L Lᵀ x = b for each lane, of the first n rows.
+pub(crate) fn solve(l: &[f64; 5050], b: &[[f64; 8]; 100], n: usize) -> [[f64; 8]; 100]
+    requires { n ≤ 100 }
+    ensures { result ≡ solutions_of l.now b.now n }
 {
-    if n > 100 {
-        return Err(Refusal::OutOfDomain);
-    }
     let z = forward(l, b, n);
-    Ok(backward(l, &z, n))
+    backward(l, &z, n)
 }

@@ -19,11 +19,12 @@ use Rattle.root.specs.Sqrt.{sqrt_of}
 use Rattle.arith.specs.Sums.{sum_over, products}
 use Rattle.arith.proofs.Lists.{grown-at, grown-length, padded-at, padded-length, filled-past}
 use Rattle.factor.specs.Solve.{solution_of}
-use Rattle.lane_kernels.specs.Kernels.{kernel_rows_of, kernel_lanes_of}
+use Rattle.lanes.specs.Kernels.{kernel_rows_of}
+use Rattle.lanes.specs.Posteriors.{posterior_sums_of, sums_of}
 use Rattle.lanes.specs.Rows.{cell, eight_of, lane_of, lanes_of, rows_of}
 use Rattle.lanes.specs.Solving.{solutions_of}
 use Rattle.lanes.specs.Sums.{dots_of, dots_each_of}
-use Rattle.lane_kernels.proofs.KernelRow.{sum_same}
+use Rattle.lanes.proofs.KernelRow.{sum_same}
 use Rattle.lanes.proofs.Rows.{eight-at, eight-same, lanes_at, row_at, row-past}
 use Rattle.gp_model.specs.Kernels.{row_of, similarity_of}
 use Rattle.prediction.specs.Predict.{kernel_vector_of, posterior_mean_of, posterior_std_of}
@@ -44,9 +45,9 @@ module _ (x ls chol alpha : List Float) (best : Float) (n d : ℕ) (c : List (Li
   alone-length : (p : ℕ) → length (alone p) ≡ n
   alone-length p = grown-length (λ xs i. similarity_of (lane_of c d p) (row_of x d i) (take d ls)) n
 
-  pub beside-known : kernel_lanes_of c x n (take d ls) ≡ Ok beside
-  unfolding kernel_lanes_of
-  beside-known = rw (length-take-le d ls scales, le-leb n 100 top, le-leb d 20 wide, le-leb (n * d) (length x) rows)
+  pub sums-known : posterior_sums_of c x n (take d ls) chol alpha ≡ Ok (sums_of beside chol alpha n)
+  unfolding posterior_sums_of
+  sums-known = rw (length-take-le d ls scales, le-leb n 100 top, le-leb d 20 wide, le-leb (n * d) (length x) rows, le-leb n (length alpha) weights)
 
   kernel-cell : (i p : ℕ) → i < n → p < 8 → cell beside i p ≡ get_or (alone p) i nan
   unfolding similarity_of

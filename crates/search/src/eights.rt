@@ -74,11 +74,15 @@ fn scores(m: Lent, points: &[[f64; 8]; 20]) -> [f64; 8]
     ensures { result ≡ eight_of (λ (p : ℕ). score_of (model_of m.entry) (lane_of points.now m.entry.d p)) }
 {
     let lengthscales = &m.lengthscales[..m.d];
-    let k = lane_kernels::kernel_vectors(points, m.x_train, m.n, lengthscales).unwrap();
-    let means = lanes::dot_each(&k, m.alpha, m.n).unwrap();
-    let v = lanes::solve(m.cholesky, &k, m.n).unwrap();
-    let products = lanes::dot(&k, &v, m.n).unwrap();
-    improvements(&means, &products, m.f_best)
+    let sums = lanes::posterior_sums(
+        points,
+        m.x_train,
+        m.n,
+        lengthscales,
+        m.cholesky,
+        m.alpha,
+    ).unwrap();
+    improvements(&sums.means, &sums.products, m.f_best)
 }
 
 // The point drawn at a word is kept where its score is above the best one.

@@ -2,10 +2,8 @@
 use mathlib.Core.Path.{◌≡◌, refl}
 use native.Mathlib.Numerals.{add-one}
 use native.Mathlib.Omega.{arith}
-use borrow.Author.Tests.{le-leb}
 use lib.Ieee.{binary64, mul, of_bits}
 use Rattle.lanes.specs.Rows.{cell}
-use Rattle.lanes.specs.Sums.{dot_lanes_of}
 use Rattle.lanes.proofs.Summed.{summed-none, summed-more}
 use Rattle.lanes.proofs.sums.dot.Goals as goal
 
@@ -20,8 +18,7 @@ loop-i-preserved c =
     rw (add-one i) (summed-more i (λ p k. mul binary64 (cell g.a.now k p) (cell g.b.now k p)) _ c.loop-i.s c.more-s.result (λ p h. refl) c.loop-i.invariant c.more-s.ensures)
 
 pub returns : goal.returns
-unfolding dot_lanes_of
 returns c =
     let g = c.args in
     let e : c.loop-i.i ≡ g.n = omega arith in
-    rw (c.loop-i.invariant, le-leb g.n 100 (omega arith), e)
+    rw (c.loop-i.invariant, e)

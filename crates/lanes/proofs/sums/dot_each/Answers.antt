@@ -2,12 +2,10 @@
 use mathlib.Core.Path.{◌≡◌}
 use native.Mathlib.Numerals.{add-one}
 use native.Mathlib.Omega.{arith}
-use borrow.Author.Tests.{le-leb}
-use lib.ListN.{length, get_or}
+use lib.ListN.{get_or}
 use lib.Ieee.{nan, binary64, mul, of_bits}
 use Rattle.std.proofs.lemmas.List.{get_or-replicate}
 use Rattle.lanes.specs.Rows.{cell}
-use Rattle.lanes.specs.Sums.{dot_each_of}
 use Rattle.lanes.proofs.Summed.{summed-none, summed-more}
 use Rattle.lanes.proofs.sums.dot_each.Goals as goal
 
@@ -22,8 +20,7 @@ loop-i-preserved c =
     rw (add-one i) (summed-more i (λ p k. mul binary64 (cell g.a.now k p) (get_or g.b.now k nan)) _ c.loop-i.s c.more-s.result (λ p h. rw (get_or-replicate 8 p (get_or g.b.now i nan) nan h)) c.loop-i.invariant c.more-s.ensures)
 
 pub returns : goal.returns
-unfolding dot_each_of
 returns c =
     let g = c.args in
     let e : c.loop-i.i ≡ g.n = omega arith in
-    rw (c.loop-i.invariant, le-leb g.n 100 (omega arith), le-leb g.n (length g.b.now) (omega arith), e)
+    rw (c.loop-i.invariant, e)

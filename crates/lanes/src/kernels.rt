@@ -6,10 +6,9 @@ ghost use Rattle.arith.specs.Outcome.{value_of};
 ghost use Rattle.arith.specs.Sums.{sum_over};
 ghost use Rattle.kernel.specs.Matern.{square, polynomial_of, at_of};
 ghost use Rattle.lanes.specs.Rows.{eight_of, rows_of};
-ghost use Rattle.lane_kernels.specs.Kernels.{distance_term, kernel_rows_of, kernel_lanes_of};
+ghost use Rattle.lanes.specs.Kernels.{distance_term, kernel_rows_of};
 
 use crate::roots;
-use refusal::Refusal;
 
 // s and the squares of the scaled differences of a column, lane by lane.
 #[tactic(auto, using(arith::proofs::Eights::eight_floats))]
@@ -64,7 +63,7 @@ fn decays(r_sq: &[f64; 8]) -> [f64; 8]
 
 // The kernel of eight points and each of n rows.
 // Kept: n beside x, which may be longer than the rows, and says nothing of them where there is no column.
-fn kernel_rows(
+pub(crate) fn kernel_rows(
     points: &[[f64; 8]; 20],
     x: &[f64],
     n: usize,
@@ -79,22 +78,4 @@ fn kernel_rows(
         out[i] = decays(&r_sq);
     }
     out
-}
-
-// The same: 11 over 100 rows or 20 columns, and where the rows are not all there.
-// Kept: n beside x, as in kernel_rows.
-#[tactic(auto, unfolding(crate::specs::Kernels::kernel_lanes_of))]
-pub fn kernel_vectors(
-    points: &[[f64; 8]; 20],
-    x: &[f64],
-    n: usize,
-    lengthscales: &[f64],
-) -> Result<[[f64; 8]; 100], Refusal>
-    ensures { result ≡ kernel_lanes_of points.now x.now n lengthscales.now }
-{
-    let d = lengthscales.len();
-    if n <= 100 && d <= 20 && n * d <= x.len() {
-        return Ok(kernel_rows(points, x, n, lengthscales));
-    }
-    Err(Refusal::OutOfDomain)
 }

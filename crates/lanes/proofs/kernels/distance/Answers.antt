@@ -1,11 +1,11 @@
--- `lane_kernels::kernels::distance` meets its contract: before each turn each lane has the sum of the j columns passed. Assumes nothing.
+-- `lanes::kernels::distance` meets its contract: before each turn each lane has the sum of the j columns passed. Assumes nothing.
 use mathlib.Core.Path.{refl}
 use native.Mathlib.Numerals.{add-one}
 use lib.ListN.{length}
 use lib.Ieee.{of_bits}
-use Rattle.lane_kernels.specs.Kernels.{distance_term}
+use Rattle.lanes.specs.Kernels.{distance_term}
 use Rattle.lanes.proofs.Summed.{summed-none, summed-more}
-use Rattle.lane_kernels.proofs.kernels.distance.Goals as goal
+use Rattle.lanes.proofs.kernels.distance.Goals as goal
 
 pub loop-j-init : goal.loop-j-init
 unfolding of_bits

@@ -1,7 +1,7 @@
 use Rattle.std.proofs.Common.{arith}
 use lib.Ieee.{of_bits, of_int}
 use Rattle.arith.proofs.Eights.{eight_floats}
-use Rattle.lane_kernels.proofs.kernels.polynomials.Goals as goal
+use Rattle.lanes.proofs.kernels.polynomials.Goals as goal
 
 pub returns : goal.returns
 unfolding of_bits of_int

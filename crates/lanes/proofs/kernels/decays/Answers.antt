@@ -1,4 +1,4 @@
--- `lane_kernels::kernels::decays` meets its contract, lane by lane. Assumes nothing.
+-- `lanes::kernels::decays` meets its contract, lane by lane. Assumes nothing.
 use Rattle.std.specs.Prelude.{Ok}
 use mathlib.Core.Path.{◌≡◌}
 use lib.ListN.{get_or}
@@ -6,9 +6,9 @@ use lib.Ieee.{nan}
 use Rattle.arith.specs.Outcome.{value_of}
 use Rattle.exponential.specs.Exp.{exp_of}
 use Rattle.lanes.specs.Rows.{eight_of}
-use Rattle.lane_kernels.proofs.DecayRow.{decay-row, exponentials-known}
-use Rattle.lane_kernels.proofs.kernels.decays.Goals as goal
-use Rattle.lane_kernels.proofs.kernels.decays.Goals.{After-exp_eight}
+use Rattle.lanes.proofs.DecayRow.{decay-row, exponentials-known}
+use Rattle.lanes.proofs.kernels.decays.Goals as goal
+use Rattle.lanes.proofs.kernels.decays.Goals.{After-exp_eight}
 
 known : (c : After-exp_eight) → c.exp_eight.result ≡ Ok (eight_of (λ p. value_of (exp_of (get_or c.negated-x.result p nan))))
 known c = exponentials-known c.args.r_sq.now c.scaled_roots-q.result c.negated-x.result c.exp_eight.result c.scaled_roots-q.ensures c.negated-x.ensures c.exp_eight.ensures

@@ -13,7 +13,7 @@ use Rattle.arith.specs.Sums.{sum_over}
 use Rattle.arith.proofs.Lists.{grown-at, grown-length}
 use Rattle.kernel.specs.Matern.{squared_distance_of, at_of, matern52_of}
 use Rattle.lanes.specs.Rows.{cell, eight_of, lane_of}
-use Rattle.lane_kernels.specs.Kernels.{distance_term}
+use Rattle.lanes.specs.Kernels.{distance_term}
 use Rattle.lanes.proofs.Rows.{eight-at, eight-same}
 
 -- sums of equal terms

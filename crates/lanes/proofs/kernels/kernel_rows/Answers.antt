@@ -1,4 +1,4 @@
--- `lane_kernels::kernels::kernel_rows` meets its contract: before each turn the array holds the rows passed. Assumes nothing.
+-- `lanes::kernels::kernel_rows` meets its contract: before each turn the array holds the rows passed. Assumes nothing.
 use mathlib.Core.Path.{refl}
 use native.Mathlib.Numerals.{add-one}
 use native.Mathlib.Omega.{arith}
@@ -6,9 +6,9 @@ use lib.Ieee.{of_bits}
 use Rattle.arith.proofs.Lists.{row-end}
 use Rattle.arith.specs.Lists.{grown}
 use Rattle.lanes.proofs.Rows.{row-set}
-use Rattle.lane_kernels.proofs.KernelRow.{kernel-row}
+use Rattle.lanes.proofs.KernelRow.{kernel-row}
 use lib.ListN.{length}
-use Rattle.lane_kernels.proofs.kernels.kernel_rows.Goals as goal
+use Rattle.lanes.proofs.kernels.kernel_rows.Goals as goal
 
 pub loop-i-init : goal.loop-i-init
 unfolding grown of_bits

@@ -1,3 +1,0 @@
-mod Cases
-pub mod DecayRow
-pub mod KernelRow
