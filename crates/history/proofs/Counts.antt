@@ -9,6 +9,7 @@ use lib.Ieee.{binary64, of_bits}
 use Rattle.arith.proofs.Lists.{grown-length, padded-length, places-length}
 use Rattle.dimensions.specs.declared.DimensionInfo.{DimensionInfo}
 use Rattle.history.specs.declared.Training.{Training}
+use Rattle.history.specs.Counts.{Counts}
 use Rattle.dimensions.specs.Dimensions.{columns_of}
 use Rattle.param_mapping.specs.Mapping.{mapped_of}
 use Rattle.history_rows.specs.Rows.{row_count, recent_of, row_at, objective_of}
@@ -17,12 +18,6 @@ use Rattle.history.proofs.FromArray.{training-accepted}
 use Rattle.param_mapping.proofs.Opened.{opened}
 use Rattle.history.proofs.PlaceList.{columns-few}
 use Rattle.history_rows.proofs.Recent.{recent-few}
-
-pub record Counts (t : Training) : Type 0 where
-  pub rows : t.n ≤ 100
-  pub columns : t.d ≤ 20
-  pub x : length t.x ≡ 2000
-  pub y : length t.y ≡ 100
 
 kept-few : (n m : ℕ) (mapping : List (Option ℕ)) (columns r : List ℕ) → row_count n r ≤ m → length (kept_of n mapping columns r) ≤ m
 unfolding kept_of

@@ -1,8 +1,7 @@
 -- The tests at small histories, computed. Assumes nothing.
-use Prim.Native.Nat.{ℕ, zero, suc}
 use mathlib.Core.Path.{◌≡◌, refl}
 use mathlib.Core.Bool.{true, false}
-use mathlib.Core.List.{List, [], ◌∷◌, ◌++◌}
+use mathlib.Core.List.{[], ◌∷◌, ◌++◌}
 use lib.ListN.{replicate}
 use lib.Ieee.{of_bits, neg, le, lt, eq}
 use Rattle.arith.specs.Lists.{every, place_of}
@@ -45,6 +44,31 @@ Numbers =
 numbers : Numbers
 unfolding check_of recent_tests whole_rows row_count recent_count recent_of row_ok slot_read slot_ok agreeing slots_ok ids_once rows_agreeing every equal_of shape_of float_step taken_of value_of float_taken int_taken read_of checked_of of_bits neg le lt eq
 numbers = (refl, refl, refl, refl, refl, refl, refl, refl, refl, refl, refl, refl, refl)
+
+-- two faults at once: the lower number is given, in whichever rows they are
+abbrev Pairs : Type 0
+Pairs =
+    -- slots out of range before 3
+    (check_of 0 (7 ∷ []) ≡ Err OutOfDomain)
+    × (check_of 21 (7 ∷ []) ≡ Err OutOfDomain)
+    -- 3 before a bad state, a bad slot, an id twice, unequal distributions
+    × (check_of 1 (7 ∷ row 4 absent) ≡ Err BrokenRows)
+    × (check_of 1 (row 0 (slot 9 9 10) ++ 7 ∷ []) ≡ Err BrokenRows)
+    × (check_of 2 (row 0 (slot 9 9 5 ++ slot 9 9 5) ++ 7 ∷ []) ≡ Err BrokenRows)
+    × (check_of 1 (row 0 (slot 9 9 5) ++ row 0 (slot 9 8 5) ++ 7 ∷ []) ≡ Err BrokenRows)
+    -- 4 before an id twice, unequal distributions
+    × (check_of 2 (row 0 (slot 9 9 5 ++ slot 9 9 5) ++ row 4 (absent ++ absent)) ≡ Err Objective)
+    × (check_of 1 (row 0 (slot 9 9 5) ++ row 4 (slot 9 8 5)) ≡ Err Objective)
+    -- 5 before an id twice, unequal distributions
+    × (check_of 2 (row 0 (slot 9 9 5 ++ slot 9 9 5) ++ row 0 (absent ++ 9 ∷ replicate 7 0)) ≡ Err Slot)
+    × (check_of 1 (row 0 (slot 9 9 5) ++ row 0 (slot 9 8 5) ++ row 0 (9 ∷ replicate 7 0)) ≡ Err Slot)
+    -- 6 before unequal distributions, in earlier rows and in the same one
+    × (check_of 2 (row 0 (slot 9 9 5 ++ absent) ++ row 0 (slot 9 8 5 ++ absent) ++ row 0 (slot 4 9 5 ++ slot 4 9 5)) ≡ Err RepeatedId)
+    × (check_of 2 (row 0 (slot 9 9 5 ++ slot 9 8 5)) ≡ Err RepeatedId)
+
+two_faults : Pairs
+unfolding check_of recent_tests whole_rows row_count recent_count recent_of row_ok slot_read slot_ok agreeing slots_ok ids_once rows_agreeing every equal_of shape_of float_step taken_of value_of float_taken int_taken read_of checked_of of_bits neg le lt eq
+two_faults = (refl, refl, refl, refl, refl, refl, refl, refl, refl, refl, refl, refl)
 
 -- a bad state in the first of 101 rows is not read, in the first of 100 it is
 abbrev Older : Type 0

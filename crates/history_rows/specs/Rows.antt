@@ -1,4 +1,4 @@
--- "History: rows of 3 + 8n words, n the setting slots. A row is trial number, state, objective, then n slots: parameter id, distribution, taken value." Definitions only.
+-- A history: "rows of 3 + 8n words", n the setting slots. "A row is trial number, state .., objective .., then n slots: parameter id, distribution, taken value." Definitions only.
 use Rattle.std.specs.Prelude.{ℕ, ◌+◌, ◌-◌, ◌*◌, ◌/◌, ◌%◌, Bool, cond, List, eqb, leb, length, get_or, take, drop}
 use Rattle.arith.specs.Lists.{list_of}
 

@@ -122,7 +122,7 @@ recent-alike n h =
     ∙ ap (λ k. eqb k 0) (sym (ap (λ k. k % width_of n) e ∙ add-mul-mod_self_left (length h - older_of n h) (width_of n) o))
 
 -- where both or neither reach start-up
-same-recent : (n startup : ℕ) (g h : List ℕ) → recent_of n g ≡ recent_of n h → leb startup (row_count n g) ≡ leb startup (row_count n h) → Agree n startup g h
+pub same-recent : (n startup : ℕ) (g h : List ℕ) → recent_of n g ≡ recent_of n h → leb startup (row_count n g) ≡ leb startup (row_count n h) → Agree n startup g h
 same-recent n startup g h r s = go (whole_rows n g) refl
   where
     alike : whole_rows n g ≡ whole_rows n h

@@ -25,7 +25,7 @@ use Rattle.param_mapping.specs.Mapping.{mapped_of, asked_of, mapping_of}
 use Rattle.history.specs.Training.{trains_of, column_of, kept_of, x_of, y_of, built_of, recent_training, training_of}
 use Rattle.history_view.specs.View.{reaches_of, viewed, view_of}
 use Rattle.history.specs.RowsAgree.{RowsAgree}
-use Rattle.history_view.proofs.Generous.{recent-agree}
+use Rattle.history_view.proofs.Generous.{same-recent, recent-agree}
 use Rattle.history_view.specs.Agree.{WholeAgree, Agree, OrderFree, OlderUnread}
 use Rattle.history.proofs.KeptRows.{cell, kept_row, kept-covers}
 use Rattle.param_mapping.proofs.Opened.{accepted}
@@ -179,4 +179,5 @@ older-unread =
       refusal = λ n g h r. order-free.refusal n 0 g h (recent-agree n g h r);
       mapping = λ n dims k g h r. order-free.mapping n 0 dims k g h (recent-agree n g h r);
       training = λ n dims k g h r. order-free.training n 0 dims k g h (recent-agree n g h r);
+      view = λ n startup dims k g h r s. order-free.view n startup dims k g h (same-recent n startup g h r s);
     }

@@ -28,11 +28,12 @@ pub record OrderFree : Type 0 where
   pub training : (n startup : ℕ) (dims : List DimensionInfo) (k : ℕ) (g h : List ℕ) → Agree n startup g h → training_of n dims k g ≡ training_of n dims k h
   pub view : (n startup : ℕ) (dims : List DimensionInfo) (k : ℕ) (g h : List ℕ) → Agree n startup g h → view_of n startup dims k g ≡ view_of n startup dims k h
 
--- "older words are never read": each answer is a function of the recent rows
+-- "older words are never read": each answer is a function of the recent rows, and the view of whether start-up is reached too
 pub record OlderUnread : Type 0 where
   pub refusal : (n : ℕ) (g h : List ℕ) → recent_of n g ≡ recent_of n h → check_of n g ≡ check_of n h
   pub mapping : (n : ℕ) (dims : List DimensionInfo) (k : ℕ) (g h : List ℕ) → recent_of n g ≡ recent_of n h → mapping_of n dims k g ≡ mapping_of n dims k h
   pub training : (n : ℕ) (dims : List DimensionInfo) (k : ℕ) (g h : List ℕ) → recent_of n g ≡ recent_of n h → training_of n dims k g ≡ training_of n dims k h
+  pub view : (n startup : ℕ) (dims : List DimensionInfo) (k : ℕ) (g h : List ℕ) → recent_of n g ≡ recent_of n h → leb startup (row_count n g) ≡ leb startup (row_count n h) → view_of n startup dims k g ≡ view_of n startup dims k h
 
 -- ---- what may differ
 

@@ -45,7 +45,7 @@ unfoldable pub mapped_of : ℕ → List DimensionInfo → ℕ → List ℕ → L
 unfolding entries_of first_entry matches_of
 mapped_of n dims k row = grown (λ before j. first_entry (matches_of before j (dimension_at dims j).distribution) (entries_of row n)) k
 
--- "a malformed dimension, a count over 20 or slots outside 1 to 20" is 11, then the tests 3 to 7
+-- a malformed dimension, a count over 20 or slots outside 1 to 20 are 11, then come the tests 3 to 7
 unfoldable pub asked_of : ℕ → List DimensionInfo → ℕ → List ℕ → Result Unit Refusal
 unfolding dimensions_ok check_of
 asked_of n dims k h = cond (dimensions_ok dims k) (check_of n h) (Err OutOfDomain)

@@ -25,7 +25,8 @@ use Rattle.param_mapping.specs.Mapping.{asked_of}
 use Rattle.history_view.specs.View.{view_of, seen_of}
 use Rattle.arith.specs.Outcome.{and_then}
 use Rattle.refusal.specs.declared.Refusal.TheVariants.{OutOfDomain}
-use Rattle.history.proofs.Counts.{Counts, training-counts}
+use Rattle.history.specs.Counts.{Counts}
+use Rattle.history.proofs.Counts.{training-counts}
 use Rattle.history_view.proofs.Views.{none-refused, view-number, seen-training, view-seen}
 use Rattle.param_mapping.proofs.Opened.{opened}
 use Rattle.settings.specs.declared.Settings.{Settings}

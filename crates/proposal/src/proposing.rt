@@ -1,6 +1,6 @@
 // A new trial's values.
 ghost use Rattle.std.specs.Prelude.{◌≡◌, not, ◌&&◌, eqb, leb, ◌≤◌, ◌<◌};
-ghost use Rattle.history.proofs.Counts.{Counts};
+ghost use Rattle.history.specs.Counts.{Counts};
 ghost use Rattle.settings.specs.Settings.{settings_ok};
 ghost use Rattle.proposal.specs.Accepts.{CandidateAccepted};
 ghost use Rattle.proposal.specs.Proposal.{from_point, candidate_of, compute_candidate_of};
