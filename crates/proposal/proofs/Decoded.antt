@@ -50,11 +50,11 @@ step-decoded d u w r c e =
     let m = unmade (undrawn w) (decode_of d u) r (rw (is_true (continuous_of d.distribution) c) at e) in
     m.1 ∙ ap (λ (x : Draw ParamValue). Ok x.value) m.2
 
-from-point : (dims : List DimensionInfo) (k : ℕ) (p : Draw (List Float)) (c : Values) → from_point dims k p ≡ Ok c → Decodes dims k c.value p.value
+pub from-point : (dims : List DimensionInfo) (k : ℕ) (p : Draw (List Float)) (c : Values) → from_point dims k p ≡ Ok c → Decodes dims k c.value p.value
 from-point dims k p c e j l t =
     let u = unmade (after p.drawn) (walked_of (Some p.value) dims k p.next) c e in
     let s = (walked-in (Some p.value) dims p.next k u.0 u.1).values j l in
-    step-decoded (dimension_at dims j) (get_or p.value (length (columns_of dims j)) nan) (moved_of s.moves p.next) s.draw t s.is
+    step-decoded (dimension_at dims j) (get_or p.value (length (columns_of dims j)) nan) (moved_of s.before.drawn p.next) s.draw t s.is
     ∙ ap Ok (sym s.value ∙ ap (λ (d : Values). get_or d.value j empty_value) u.2)
 
 -- of a point with a coordinate for each of them, in an array
