@@ -66,14 +66,14 @@ from-array dims k values x point f e n j l c =
 -- ---- the best point
 
 -- the values decode the best point drawn; d is how many of them are continuous
-pub record StoresDrawn (dims : List DimensionInfo) (k candidates w : ℕ) (m : Model) (values : List ParamValue) (d : ℕ) : Type 0 where
+pub record DecodesBest (dims : List DimensionInfo) (k candidates w : ℕ) (m : Model) (values : List ParamValue) (d : ℕ) : Type 0 where
   pub index : ℕ
   pub best : EarliestHighest (λ i. score_of m (drawn_of d (stream_of (candidates * d) w) i)) candidates index
   pub decoded : Decodes dims k values (drawn_of d (stream_of (candidates * d) w) index)
 
 pub record StoresEarliest (dims : List DimensionInfo) (k candidates w : ℕ) (m : Model) (values : List ParamValue) (d : ℕ) : Type 0 where
   pub none : candidates ≡ 0 → Decodes dims k values (replicate d (of_bits binary64 0x3fe0000000000000))
-  pub found : 0 < candidates → StoresDrawn dims k candidates w m values d
+  pub found : 0 < candidates → DecodesBest dims k candidates w m values d
 
 module _ (s : Settings) (dims : List DimensionInfo) (k w : ℕ) (h : List ℕ) where
   abbrev view : View

@@ -153,8 +153,8 @@ closed s t trial =
 -- ---- every call, and along a run
 
 right : (s : Sampler) (c : Call) → Typed s → ServedRight s c
-right s (asks d trial h) t a e = (settings-kept s (asks d trial h), sampled s t d trial h a e)
-right s (closes trial) t a e = (settings-kept s (closes trial), closed s t trial a e)
+right s (asks d trial h) t a e = record { settings = settings-kept s (asks d trial h); call = sampled s t d trial h a e }
+right s (closes trial) t a e = record { settings = settings-kept s (closes trial); call = closed s t trial a e }
 
 pub calls_served : CallsServed
 calls_served = record {

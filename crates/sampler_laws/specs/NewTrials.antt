@@ -75,7 +75,7 @@ pub record Stores (s after : Sampler) (trial : ℕ) (point : List Float) : Type 
       → decode_of (dimension_at s.dimensions.list j) (get_or point (length (columns_of s.dimensions.list j)) nan) ≡ Ok (stored_at place j)
 
 -- "the earliest drawn for it whose expected improvement under that model is at least that of every other one drawn for it"
-pub record StoresDrawn (s after : Sampler) (trial : ℕ) (m : Model) : Type 0 where
+pub record BestPoint (s after : Sampler) (trial : ℕ) (m : Model) : Type 0 where
   pub index : ℕ
   pub best : EarliestHighest (λ i. score_of m (point_drawn s i)) s.settings.n_candidates index
   pub stored : Stores s after trial (point_drawn s index)
@@ -84,7 +84,7 @@ pub record StoresDrawn (s after : Sampler) (trial : ℕ) (m : Model) : Type 0 wh
 pub record StoresBest (s after : Sampler) (trial : ℕ) (m : Model) : Type 0 where
   pub none : s.settings.n_candidates ≡ 0
       → Stores s after trial (replicate (continuous s) (of_bits binary64 0x3fe0000000000000))
-  pub found : 0 < s.settings.n_candidates → StoresDrawn s after trial m
+  pub found : 0 < s.settings.n_candidates → BestPoint s after trial m
 
 -- how many continuous dimensions, and how many choices, come before dimension j
 abbrev pub columns_before : Sampler → ℕ → ℕ

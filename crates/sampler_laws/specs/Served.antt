@@ -104,6 +104,10 @@ abbrev pub CallServed : Sampler → Call → Answer → Sampler → Type 0
 CallServed s (asks d trial h) a after = SampleServed s d trial a after
 CallServed s (closes trial) a after = Closed s trial a after
 
+pub record Served (s : Sampler) (c : Call) (a : Answer) (after : Sampler) : Type 0 where
+  pub settings : after.settings ≡ s.settings
+  pub call : CallServed s c a after
+
 -- an accepted call
 abbrev pub ServedRight : Sampler → Call → Type 0
-ServedRight s c = (a : Answer) → (call_of s c).answer ≡ Ok a → ((call_of s c).sampler.settings ≡ s.settings) × CallServed s c a (call_of s c).sampler
+ServedRight s c = (a : Answer) → (call_of s c).answer ≡ Ok a → Served s c a (call_of s c).sampler
