@@ -50,11 +50,11 @@ step-decoded d u w r c e =
     let m = unmade (undrawn w) (decode_of d u) r (rw (is_true (continuous_of d.distribution) c) at e) in
     m.1 ∙ ap (λ (x : Draw ParamValue). Ok x.value) m.2
 
-from-point : (dims : List DimensionInfo) (k : ℕ) (p : Draw (List Float)) (c : Values) → from_point dims k p ≡ Ok c → Decodes dims k c.value p.value
+pub from-point : (dims : List DimensionInfo) (k : ℕ) (p : Draw (List Float)) (c : Values) → from_point dims k p ≡ Ok c → Decodes dims k c.value p.value
 from-point dims k p c e j l t =
     let u = unmade (after p.drawn) (walked_of (Some p.value) dims k p.next) c e in
     let s = (walked-in (Some p.value) dims p.next k u.0 u.1).values j l in
-    step-decoded (dimension_at dims j) (get_or p.value (length (columns_of dims j)) nan) (moved_of s.moves p.next) s.draw t s.is
+    step-decoded (dimension_at dims j) (get_or p.value (length (columns_of dims j)) nan) (moved_of s.before.drawn p.next) s.draw t s.is
     ∙ ap Ok (sym s.value ∙ ap (λ (d : Values). get_or d.value j empty_value) u.2)
 
 -- of a point with a coordinate for each of them, in an array
@@ -66,14 +66,14 @@ from-array dims k values x point f e n j l c =
 -- ---- the best point
 
 -- the values decode the best point drawn; d is how many of them are continuous
-pub record StoresDrawn (dims : List DimensionInfo) (k candidates w : ℕ) (m : Model) (values : List ParamValue) (d : ℕ) : Type 0 where
+pub record DecodesBest (dims : List DimensionInfo) (k candidates w : ℕ) (m : Model) (values : List ParamValue) (d : ℕ) : Type 0 where
   pub index : ℕ
   pub best : EarliestHighest (λ i. score_of m (drawn_of d (stream_of (candidates * d) w) i)) candidates index
   pub decoded : Decodes dims k values (drawn_of d (stream_of (candidates * d) w) index)
 
 pub record StoresEarliest (dims : List DimensionInfo) (k candidates w : ℕ) (m : Model) (values : List ParamValue) (d : ℕ) : Type 0 where
   pub none : candidates ≡ 0 → Decodes dims k values (replicate d (of_bits binary64 0x3fe0000000000000))
-  pub found : 0 < candidates → StoresDrawn dims k candidates w m values d
+  pub found : 0 < candidates → DecodesBest dims k candidates w m values d
 
 module _ (s : Settings) (dims : List DimensionInfo) (k w : ℕ) (h : List ℕ) where
   abbrev view : View

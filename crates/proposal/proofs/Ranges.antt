@@ -214,7 +214,7 @@ module _ (point : Option (List Float)) (dims : List DimensionInfo) (w : ℕ) (h 
     where
       ranged : (i : ℕ) {v : ParamValue} → i < k → Step point dims w i v → InRange (dimension_at dims i).distribution v
       ranged i l s =
-          let r = step-in k a i s.moves l in
+          let r = step-in k a i s.before.drawn l in
           let q : r.draw ≡ s.draw = cc (r.is, s.is) in
           rw s.value (subst (λ (d : Draw ParamValue). InRange (dimension_at dims i).distribution d.value) q r.range)
 

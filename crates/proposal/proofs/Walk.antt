@@ -63,11 +63,12 @@ module _ (point : Option (List Float)) (dims : List DimensionInfo) (w : ℕ) whe
       go before (Ok a) p q = let u = unmade (walk_more a) (step_at point dims j a.next) b q in subst (P (suc j)) u.2 (f j a u.0 p (before a p) u.1)
       go before (Err x) p q = absurd (cc)
 
-  -- what step i answers for its value v
+  -- what step i answers for its value v, after the values before it
   pub record Step (i : ℕ) (v : ParamValue) : Type 0 where
-    pub moves : ℕ
+    pub before : Values
+    pub walks : walk_of point dims i w ≡ Ok before
     pub draw : Draw ParamValue
-    pub is : step_at point dims i (moved_of moves w) ≡ Ok draw
+    pub is : step_at point dims i (moved_of before.drawn w) ≡ Ok draw
     pub value : v ≡ draw.value
 
   pub record Walked (j : ℕ) (b : Values) : Type 0 where
@@ -91,7 +92,7 @@ module _ (point : Option (List Float)) (dims : List DimensionInfo) (w : ℕ) whe
             next = m.next ∙ ap (moved_of r.drawn) p.next ∙ moves-on b.drawn r.drawn w;
             values = λ i l. elim (eq-or-lt_of_le (le_of_suc-le-suc l)) [
               | inl q ↦ subst (λ (k : ℕ). Step k (get_or (b.value ++ (r.value ∷ [])) k empty_value)) (sym q)
-                  (record { moves = b.drawn; draw = r; is = ap (step_at point dims j) (sym p.next) ∙ s; value = last })
+                  (record { before = b; walks = e; draw = r; is = ap (step_at point dims j) (sym p.next) ∙ s; value = last })
               | inr h ↦ subst (Step i) (sym (get_or-append b.value (r.value ∷ []) empty_value i (subst (λ (k : ℕ). i < k) (sym n) h))) (p.values i h)
             ];
           }

@@ -76,30 +76,34 @@ one_more false continuous drawn x columns next j p q e = omega arith
 abbrev Words : Option (List Float) → List DimensionInfo → ℕ → ℕ → Values → Type 0
 Words point dims k j b = j ≤ k → b.drawn + cond (is_some point) (length (columns_of dims j)) 0 ≡ j
 
-walk-words : (point : Option (List Float)) (dims : List DimensionInfo) (w : ℕ) → Nonzero w → (k : ℕ) → ((i : ℕ) → i < k → Drawable (dimension_at dims i).distribution)
-    → (c : Values) → walked_of point dims k w ≡ Ok c → c.drawn + cond (is_some point) (length (columns_of dims k)) 0 ≡ k
-unfolding columns_of places_of
-walk-words point dims w n k r c e =
-    let u = unmade values_in (walk_of point dims k w) c e in
-    ap (λ (d : Values). d.drawn + cond (is_some point) (length (columns_of dims k)) 0) (sym u.2) ∙ walk-all point dims w (Words point dims k) none more k u.0 u.1 (le_refl k)
-  where
-    none : Words point dims k 0 (record { value = []; drawn = 0; next = w })
-    none l = go (is_some point)
-      where
-        go : (g : Bool) → 0 + cond g 0 0 ≡ 0
-        go true = refl
-        go false = refl
+module _ (point : Option (List Float)) (dims : List DimensionInfo) (w : ℕ) (n : Nonzero w) (k : ℕ) (r : (i : ℕ) → i < k → Drawable (dimension_at dims i).distribution) where
+  -- how many words the first j take
+  pub words-at : (j : ℕ) (b : Values) → walk_of point dims j w ≡ Ok b → Words point dims k j b
+  unfolding columns_of places_of
+  words-at = walk-all point dims w (Words point dims k) none more
+    where
+      none : Words point dims k 0 (record { value = []; drawn = 0; next = w })
+      none l = go (is_some point)
+        where
+          go : (g : Bool) → 0 + cond g 0 0 ≡ 0
+          go true = refl
+          go false = refl
 
-    coordinates : (o : Option (List Float)) (c : ℕ) → is_some (coordinate_of o c) ≡ is_some o
-    coordinates (Some x) c = refl
-    coordinates None c = refl
+      coordinates : (o : Option (List Float)) (c : ℕ) → is_some (coordinate_of o c) ≡ is_some o
+      coordinates (Some x) c = refl
+      coordinates None c = refl
 
-    more : (j : ℕ) (b : Values) (r : Draw ParamValue) → walk_of point dims j w ≡ Ok b → Words point dims k j b → step_at point dims j b.next ≡ Ok r → Words point dims k (suc j) (walk_more b r)
-    more j b x e p s l =
-        let u = coordinate_of point (length (columns_of dims j)) in
-        let m : Nonzero b.next = subst Nonzero (sym (walked point dims w j b e).next) (moved-nonzero b.drawn w n) in
-        one_more (is_some point) (continuous_of (dimension_at dims j).distribution) b.drawn x.drawn (length (columns_of dims j)) (length (columns_of dims (suc j))) j (p (omega arith))
-        (step-word (dimension_at dims j) u b.next x m (r j (omega arith)) s ∙ ap (λ (g : Bool). cond (g && continuous_of (dimension_at dims j).distribution) 0 1) (coordinates point (length (columns_of dims j)))) (columns-next dims j)
+      more : (j : ℕ) (b : Values) (r : Draw ParamValue) → walk_of point dims j w ≡ Ok b → Words point dims k j b → step_at point dims j b.next ≡ Ok r → Words point dims k (suc j) (walk_more b r)
+      more j b x e p s l =
+          let u = coordinate_of point (length (columns_of dims j)) in
+          let m : Nonzero b.next = subst Nonzero (sym (walked point dims w j b e).next) (moved-nonzero b.drawn w n) in
+          one_more (is_some point) (continuous_of (dimension_at dims j).distribution) b.drawn x.drawn (length (columns_of dims j)) (length (columns_of dims (suc j))) j (p (omega arith))
+          (step-word (dimension_at dims j) u b.next x m (r j (omega arith)) s ∙ ap (λ (g : Bool). cond (g && continuous_of (dimension_at dims j).distribution) 0 1) (coordinates point (length (columns_of dims j)))) (columns-next dims j)
+
+  walk-words : (c : Values) → walked_of point dims k w ≡ Ok c → c.drawn + cond (is_some point) (length (columns_of dims k)) 0 ≡ k
+  walk-words c e =
+      let u = unmade values_in (walk_of point dims k w) c e in
+      ap (λ (d : Values). d.drawn + cond (is_some point) (length (columns_of dims k)) 0) (sym u.2) ∙ words-at k u.0 u.1 (le_refl k)
 
 -- ---- by a view whose training data have a column for each continuous dimension
 
@@ -110,21 +114,23 @@ module _ (s : Settings) (dims : List DimensionInfo) (k w : ℕ) (n : Nonzero w) 
   abbrev words : Training → Bool → ℕ
   words t made = cond (made && is_ok (fit_for t s.noise_variance)) (s.n_candidates * columns + (k - columns)) k
 
+  -- the words of a point
+  pub point-drawn : (t : Training) → t.d ≡ columns → (point_for t s.noise_variance s.n_candidates w).drawn ≡ cond (is_ok (fit_for t s.noise_variance)) (s.n_candidates * columns) columns
+  unfolding point_for
+  point-drawn t e = go (fit_for t s.noise_variance)
+    where
+      go : (f : Result Model Refusal) → (point_by f t.d s.n_candidates w).drawn ≡ cond (is_ok f) (s.n_candidates * columns) columns
+      go (Ok m) = ap (λ (d : ℕ). s.n_candidates * d) e
+      go (Err r) = e
+
   point-words : (t : Training) → t.d ≡ columns → (c : Values) → from_point dims k (point_for t s.noise_variance s.n_candidates w) ≡ Ok c → c.drawn ≡ words t true
   point-words t e c q =
       let p = point_for t s.noise_variance s.n_candidates w in
       let m : Nonzero p.next = subst Nonzero (sym (point-moves t s.noise_variance s.n_candidates w)) (moved-nonzero p.drawn w n) in
       let u = unmade (after p.drawn) (walked_of (Some p.value) dims k p.next) c q in
       ap (λ (d : Values). d.drawn) (sym u.2)
-      ∙ sum (is_ok (fit_for t s.noise_variance)) p.drawn u.0.drawn (s.n_candidates * columns) drawn (walk-words (Some p.value) dims p.next m k ready u.0 u.1)
+      ∙ sum (is_ok (fit_for t s.noise_variance)) p.drawn u.0.drawn (s.n_candidates * columns) (point-drawn t e) (walk-words (Some p.value) dims p.next m k ready u.0 u.1)
     where
-      drawn : (point_for t s.noise_variance s.n_candidates w).drawn ≡ cond (is_ok (fit_for t s.noise_variance)) (s.n_candidates * columns) columns
-      drawn = unfold point_for in go (fit_for t s.noise_variance)
-        where
-          go : (f : Result Model Refusal) → (point_by f t.d s.n_candidates w).drawn ≡ cond (is_ok f) (s.n_candidates * columns) columns
-          go (Ok m) = ap (λ (d : ℕ). s.n_candidates * d) e
-          go (Err r) = e
-
       sum : (b : Bool) (x y m : ℕ) → x ≡ cond b m columns → y + columns ≡ k → x + y ≡ cond b (m + (k - columns)) k
       sum true x y m p q = omega arith
       sum false x y m p q = omega arith
@@ -147,7 +153,7 @@ module _ (s : Settings) (dims : List DimensionInfo) (k w : ℕ) (h : List ℕ) w
   unfolding view_of recent_training
   view-columns e = rw (training-is s.slots dims k h e)
 
-  drawable : T (dimensions_ok dims k) → ((i : ℕ) → i < k → Held (dimension_at dims i).distribution) → (i : ℕ) → i < k → Drawable (dimension_at dims i).distribution
+  pub drawable : T (dimensions_ok dims k) → ((i : ℕ) → i < k → Held (dimension_at dims i).distribution) → (i : ℕ) → i < k → Drawable (dimension_at dims i).distribution
   unfolding dimension_ok
   drawable t held i l = let d = dimension_at dims i in (floats-fit d.distribution (held i l), bounds-shape d.distribution d.lo d.hi ((dimensions-ok dims k t).1 i l))
 

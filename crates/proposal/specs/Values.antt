@@ -1,11 +1,12 @@
 -- A new trial's values, dimension by dimension. Definitions only.
-use Rattle.std.specs.Prelude.{ℕ, zero, suc, ◌+◌, cond, List, [], ◌∷◌, ◌++◌, length, get_or, Float, Option, Some, None, Result, Ok}
+use Rattle.std.specs.Prelude.{ℕ, zero, suc, ◌+◌, cond, List, [], ◌∷◌, ◌++◌, ◌≡◌, length, get_or, Float, Option, Some, None, Result, Ok}
 use Rattle.std.specs.Float.{nan}
 use Rattle.refusal.specs.declared.Refusal.{Refusal}
 use Rattle.arith.specs.Lists.{filled}
 use Rattle.arith.specs.Outcome.{made, and_then}
 use Rattle.rng_util.specs.declared.Draw.{Draw}
 use Rattle.distribution.specs.Shape.{continuous_of}
+use Rattle.distribution.specs.declared.Distribution.{Distribution}
 use Rattle.distribution.specs.declared.ParamValue.{ParamValue}
 use Rattle.common.specs.Decode.{from_internal_of}
 use Rattle.common.specs.Random.{sample_random_of}
@@ -22,6 +23,12 @@ decode_of d u = from_internal_of (from_normalized_of u d.lo d.hi) d.distribution
 abbrev pub coordinate_of : Option (List Float) → ℕ → Option Float
 coordinate_of (Some x) c = Some (get_or x c nan)
 coordinate_of None c = None
+
+-- v is drawn from that distribution at the generator's word w
+pub record DrawnFrom (w : ℕ) (d : Distribution) (v : ParamValue) : Type 0 where
+  pub draw : Draw ParamValue
+  pub drawn : sample_random_of w d ≡ Ok draw
+  pub value : v ≡ draw.value
 
 -- a value that takes no word
 abbrev pub undrawn : ℕ → ParamValue → Draw ParamValue

@@ -26,13 +26,14 @@ use Rattle.refusal.specs.declared.Refusal.TheVariants.{NoRows, Pivot, OutOfDomai
 use Rattle.refusal.specs.Numbers.{cause_number, number_of}
 use Rattle.history_rows.specs.Rows.{whole_rows}
 use Rattle.history_rows.specs.Tests.{row_ok, slots_ok, ids_once, rows_agreeing, recent_tests, check_of}
+use Rattle.history_rows.proofs.Passed.{every_recent}
 use Rattle.settings.specs.declared.Settings.{Settings}
 use Rattle.settings.specs.Settings.{settings_ok}
 use Rattle.sampler_state.specs.declared.Sampler.{Sampler}
 use Rattle.sampler_state.specs.State.{fresh_of, holds, place_at, trial_place, taken_count, make_of, sampler_ok}
 use Rattle.sampler_state.proofs.Held.{no-spot, full-no-spot}
 use Rattle.sampler_laws.specs.Calls.{spot_of}
-use Rattle.sampler_laws.specs.Causes.{first_cause, every_recent, cause_of, fit_cause_of}
+use Rattle.sampler_laws.specs.Causes.{first_cause, cause_of, fit_cause_of}
 use Rattle.sampler_laws.specs.Laws.{Typed, RefusalsTold}
 use Rattle.sampler_laws.specs.NewTrials.{past_discovery}
 use Rattle.sampler_laws.specs.Runs.{Asked, asks, closes, Call, call_of, call_number, read_asked}

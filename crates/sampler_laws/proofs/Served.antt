@@ -25,9 +25,10 @@ use Rattle.sampler_laws.specs.declared.Sampled.{Sampled}
 use Rattle.sampler_laws.specs.declared.Serving.{Serving}
 use Rattle.sampler_laws.specs.Calls.{answered_of, activated, with_dimension, drawn_of, next_of, stored_of, written_of, spot_of, freed_of}
 use Rattle.sampler_laws.specs.Laws.{Typed, CallsServed}
-use Rattle.sampler_laws.specs.NewTrials.{past_discovery, served_history}
+use Rattle.sampler_laws.specs.NewTrials.{past_discovery, served_history, RandomStored}
 use Rattle.sampler_laws.specs.Runs.{Asked, asks, closes, Call, call_of, read_asked}
 use Rattle.sampler_laws.specs.Served.{AnswersDraw, PastDiscovery, SampleServed, in_discovery, new_trial, next_value, past_last, Closed, ServedRight}
+use Rattle.sampler_laws.proofs.Best.{random}
 use Rattle.sampler_laws.proofs.Kept.{settings-kept}
 use Rattle.sampler_laws.proofs.OneTrial.{by-served, serves-own}
 use Rattle.sampler_laws.proofs.Parts.{Well, well}
@@ -86,7 +87,7 @@ module _ (s : Sampler) (t : Typed s) (d : Asked) (trial : ℕ) (h : List ℕ) wh
   Right r = (a : Answer) → r.answer ≡ Ok a → SampleServed s d trial a r.sampler
 
   answers : (r : Distribution) → read_asked d ≡ Some r → (x : Draw ParamValue) → sample_random_of s.word r ≡ Ok x → (drawn : ℕ) → AnswersDraw s d (record { value = Some x.value; drawn = drawn })
-  answers r e x y drawn = record { distribution = r; read = e; draw = x; drawn = y; value = refl }
+  answers r e x y drawn = record { distribution = r; read = e; answered = x.value; drawn = record { draw = x; drawn = y; value = refl }; value = refl }
 
   -- a serving put back
   abbrev Put : Serving → Type 0
@@ -152,8 +153,13 @@ closed s t trial =
 -- ---- every call, and along a run
 
 right : (s : Sampler) (c : Call) → Typed s → ServedRight s c
-right s (asks d trial h) t a e = (settings-kept s (asks d trial h), sampled s t d trial h a e)
-right s (closes trial) t a e = (settings-kept s (closes trial), closed s t trial a e)
+right s (asks d trial h) t a e = record { settings = settings-kept s (asks d trial h); call = sampled s t d trial h a e }
+right s (closes trial) t a e = record { settings = settings-kept s (closes trial); call = closed s t trial a e }
 
 pub calls_served : CallsServed
-calls_served = record { call = right; run = λ s l o cs. along ServedRight (λ t c g. right t c g.typed) (fresh_of s) cs (fresh s l o) }
+calls_served = record {
+  call = right;
+  run = λ s l o cs. along ServedRight (λ t c g. right t c g.typed) (fresh_of s) cs (fresh s l o);
+  values = random;
+  run_values = λ s l o cs. along RandomStored (λ t c g. random t c g.typed) (fresh_of s) cs (fresh s l o);
+}

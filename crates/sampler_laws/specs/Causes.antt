@@ -18,22 +18,20 @@ abbrev pub first_cause : List (ℕ × Bool) → ℕ
 first_cause [] = 0
 first_cause (t ∷ ts) = cond t.1 t.0 (first_cause ts)
 
--- whether the test holds of every recent row; n is the slots of a row
-abbrev pub every_recent : ℕ → List ℕ → (List ℕ → Bool) → Bool
-every_recent n h test = every (row_count n (recent_of n h)) (λ i. test (row_at n (recent_of n h) i))
-
 -- "refused first, with 11", then "2 to 7 each over all recent rows, lowest number first, in both phases, then 8 or 9"; for a close 11 and 10
 unfoldable pub cause_of : Sampler → Call → ℕ
 cause_of s (asks d trial h) =
     let n = s.settings.slots in
+    let recent = recent_of n h in
+    let m = row_count n recent in
     first_cause (
     (11, not (sampler_ok s))
     ∷ (2, not (is_some (read_asked d)))
     ∷ (3, not (whole_rows n h))
-    ∷ (4, not (every_recent n h row_ok))
-    ∷ (5, not (every_recent n h (slots_ok n)))
-    ∷ (6, not (every_recent n h (ids_once n)))
-    ∷ (7, not (every_recent n h (λ a. every_recent n h (rows_agreeing n a))))
+    ∷ (4, not (every m (λ i. row_ok (row_at n recent i))))
+    ∷ (5, not (every m (λ i. slots_ok n (row_at n recent i))))
+    ∷ (6, not (every m (λ i. ids_once n (row_at n recent i))))
+    ∷ (7, not (every m (λ i. every m (λ j. rows_agreeing n (row_at n recent i) (row_at n recent j)))))
     ∷ (8, not (past_discovery s trial) && eqb s.dimensions.count 20)
     ∷ (9, past_discovery s trial && eqb (trial_place s.places trial) 32 && eqb (taken_count s.places) 32)
     ∷ []

@@ -23,7 +23,7 @@ use Rattle.sampler_state.specs.declared.Place.{Place}
 use Rattle.sampler_state.specs.declared.Sampler.{Sampler}
 use Rattle.sampler_laws.specs.declared.Answer.{Answer}
 use Rattle.sampler_laws.specs.Causes.{first_cause, cause_of, fit_cause_of}
-use Rattle.sampler_laws.specs.NewTrials.{new_trial, served_history, fit_made, fit_answer, has_model, continuous, choices, BestStored}
+use Rattle.sampler_laws.specs.NewTrials.{new_trial, served_history, fit_made, fit_answer, has_model, continuous, choices, RandomStored, BestStored}
 use Rattle.sampler_laws.specs.Runs.{Asked, asks, closes, Call, call_of, call_number, drawn_in, answers_of, end_of, Along, Alike}
 use Rattle.sampler_laws.specs.Served.{ServedRight}
 use Rattle.sampler_state.specs.State.{fresh_of, make_of, trial_place, held_by, taken_count, stored_ok, sampler_ok}
@@ -92,6 +92,9 @@ pub record RefusalsTold : Type 0 where
 pub record CallsServed : Type 0 where
   pub call : (s : Sampler) (c : Call) → Typed s → ServedRight s c
   pub run : (s : Settings) → s.seed < 2 ^ 64 → T (settings_ok s) → (cs : List Call) → Along ServedRight (fresh_of s) cs
+  -- and so are the values of a new trial that are no model's
+  pub values : (s : Sampler) (c : Call) → Typed s → RandomStored s c
+  pub run_values : (s : Settings) → s.seed < 2 ^ 64 → T (settings_ok s) → (cs : List Call) → Along RandomStored (fresh_of s) cs
 
 -- inside a call with a history that is not refused
 pub record NothingRefused : Type 0 where

@@ -1,10 +1,9 @@
 -- What an accepted call answers, and what it leaves as it was: settings always, and every place but the trial's own. Nothing here speaks of how a new trial's values are made. Definitions only.
 use Rattle.std.specs.Prelude.{ℕ, ◌+◌, ◌≤◌, ◌<◌, ◌≡◌, true, false, set, T, Some, None, Ok}
-use Rattle.rng_util.specs.declared.Draw.{Draw}
 use Rattle.distribution.specs.declared.Distribution.{Distribution}
 use Rattle.distribution.specs.declared.ParamValue.{ParamValue}
-use Rattle.common.specs.Random.{sample_random_of}
 use Rattle.dimensions.specs.Dimensions.{dimension_of}
+use Rattle.proposal.specs.Values.{DrawnFrom}
 use Rattle.sampler_state.specs.declared.Place.{Place}
 use Rattle.sampler_state.specs.declared.Sampler.{Sampler}
 use Rattle.sampler_state.specs.State.{empty_place, place_at, taken, trial_place, held_by, stored_at}
@@ -18,9 +17,9 @@ use Rattle.sampler_laws.specs.Runs.{Asked, asks, closes, Call, call_of, read_ask
 pub record AnswersDraw (s : Sampler) (d : Asked) (a : Answer) : Type 0 where
   pub distribution : Distribution
   pub read : read_asked d ≡ Some distribution
-  pub draw : Draw ParamValue
-  pub drawn : sample_random_of s.word distribution ≡ Ok draw
-  pub value : a.value ≡ Some draw.value
+  pub answered : ParamValue
+  pub drawn : DrawnFrom s.word distribution answered
+  pub value : a.value ≡ Some answered
 
 -- ---- a call in discovery
 
@@ -105,6 +104,10 @@ abbrev pub CallServed : Sampler → Call → Answer → Sampler → Type 0
 CallServed s (asks d trial h) a after = SampleServed s d trial a after
 CallServed s (closes trial) a after = Closed s trial a after
 
+pub record Served (s : Sampler) (c : Call) (a : Answer) (after : Sampler) : Type 0 where
+  pub settings : after.settings ≡ s.settings
+  pub call : CallServed s c a after
+
 -- an accepted call
 abbrev pub ServedRight : Sampler → Call → Type 0
-ServedRight s c = (a : Answer) → (call_of s c).answer ≡ Ok a → ((call_of s c).sampler.settings ≡ s.settings) × CallServed s c a (call_of s c).sampler
+ServedRight s c = (a : Answer) → (call_of s c).answer ≡ Ok a → Served s c a (call_of s c).sampler
