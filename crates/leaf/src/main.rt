@@ -19,5 +19,5 @@ mod runs;
 
 fn main(rt: HostRuntime) {
     let mut answers = input::Answers::new(rt);
-    pieces::read_lines(rt, &mut answers, u64::MAX, usize::MAX);
+    pieces::read_lines(rt, &mut answers, u64::MAX);
 }

@@ -31,32 +31,23 @@ fn whole_lines<T: Lines>(bytes: &[u8], to: &mut T) -> ControlFlow<(), usize>
     ControlFlow::Continue(rest.len())
 }
 
-/// How many bytes to ask for: what a buffer has room for, and no more than the input has left.
-pub(crate) fn asked(room: usize, left: u64) -> usize
-    ensures { (result ≤ room) × (result ≤ left) }
-{
-    left.min(room as u64) as usize
-}
-
-// What is read: the bytes held of a line whose end is not, up to `longest`, and how many bytes the input has left.
+// What is read: the bytes held of a line whose end is not, and how many bytes the input has left.
 #[derive(Drop)]
 pub(crate) struct Input {
     buffer: [u8; 65536],
     // Kept: fixed memory (document 01): an array, and how much of it is filled.
     have: usize,
-    longest: usize,
     pub(crate) left: u64,
     ghost within: { have ≤ 65536 },
 }
 
 impl Input {
-    pub(crate) fn new(limit: u64, longest: usize) -> Input
+    pub(crate) fn new(limit: u64) -> Input
         ensures { result.left ≡ limit }
     {
         Input {
             buffer: [0; 65536],
             have: 0,
-            longest,
             left: limit,
         }
     }
@@ -68,7 +59,7 @@ impl Input {
     {
         let have = whole_lines(&self.buffer[..full], to)?;
         let start = full - have;
-        if have > self.longest || have == self.buffer.len() {
+        if have == self.buffer.len() {
             self.have = 0;
             return to.long_line(&self.buffer[start..full]);
         }
@@ -81,8 +72,7 @@ impl Input {
     fn turn<T: Lines>(&mut self, rt: HostRuntime, to: &mut T) -> ControlFlow<()>
         ensures { self.new.left ≤ self.old.left }
     {
-        let end = self.have + asked(self.buffer.len() - self.have, self.left);
-        match crate::fill(rt, &mut self.buffer[self.have..end]) {
+        match crate::fill(rt, &mut self.buffer[self.have..], self.left) {
             Some(0) => to.end(&self.buffer[..self.have]),
             Some(n) => {
                 self.left -= n as u64;

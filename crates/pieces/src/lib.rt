@@ -10,12 +10,13 @@ use input::Input;
 pub use input::Lines;
 use std::io::Read;
 
-// Reads once: how many bytes are put at the start of the buffer, 0 at the end of the input. None where the read failed,
-// which is told on standard error. What is read no contract can say.
-pub fn fill(rt: HostRuntime, buf: &mut [u8]) -> Option<usize>
-    ensures { IfSome result (λ n. n ≤ length buf.old) }
+// Reads once, and no more than `left` bytes: how many are put at the start of the buffer, 0 at the end of the input.
+// None where the read failed, which is told on standard error. What is read no contract can say.
+pub fn fill(rt: HostRuntime, buf: &mut [u8], left: u64) -> Option<usize>
+    ensures { IfSome result (λ n. (n ≤ length buf.old) × (n ≤ left)) }
 {
-    match rt.stdin().read(buf) {
+    let end = left.min(buf.len() as u64) as usize;
+    match rt.stdin().read(&mut buf[..end]) {
         Ok(n) => Some(n),
         Err(_) => {
             let _ = eprintln!(rt; "Standard input cannot be read.");
@@ -35,11 +36,11 @@ pub fn keep(buf: &mut [u8], used: usize, have: usize)
 }
 
 // Hands the lines of the next `limit` bytes of standard input, or of those up to its end, to what takes them. A line of
-// more than `longest` bytes, or of 65,536, is too long to be held. How many of the bytes are not read.
-pub fn read_lines<T: Lines>(rt: HostRuntime, to: &mut T, limit: u64, longest: usize) -> u64
+// 65,536 bytes is too long to be held. How many of the bytes are not read.
+pub fn read_lines<T: Lines>(rt: HostRuntime, to: &mut T, limit: u64) -> u64
     ensures { result ≤ limit }
 {
-    let mut input = Input::new(limit, longest);
+    let mut input = Input::new(limit);
     input.run(rt, to);
     input.left
 }
@@ -52,8 +53,7 @@ pub fn skip(rt: HostRuntime, count: u64) -> u64
     let mut left = count;
     // Kept: each turn takes off what a read gave, and no range says that.
     while left > 0 {
-        let end = input::asked(buffer.len(), left);
-        match fill(rt, &mut buffer[..end]) {
+        match fill(rt, &mut buffer, left) {
             None | Some(0) => return left,
             Some(n) => left -= n as u64,
         }

@@ -8,7 +8,6 @@ use refusal::Refusal;
 use sampler_state::Sampler;
 use search::Candidate;
 use std::ops::ControlFlow;
-use text_laws::{Reader, Step};
 
 // Writes these words as a line.
 fn write_words(rt: HostRuntime, words: &[u64]) -> ControlFlow<()>
@@ -109,24 +108,16 @@ fn is_new(before: &Sampler, after: &Sampler, trial: u64) -> bool {
         && sampler_state::trial_place(&after.places, trial).is_some()
 }
 
-// The trial of a step's line, its first word.
-fn trial_of(t: &Step) -> Option<u64> {
-    let line = t.line.as_ref()?;
-    word_text::parse(&line[..16])
-}
-
-// The points of the trial that a step made new with a model; nothing for any other step.
-pub(crate) fn write_step(
+// The points of the trial that a call made new with a model; nothing for any other call.
+pub(crate) fn write_call(
     rt: HostRuntime,
-    before: &Reader,
-    t: &Step,
+    before: &Sampler,
+    after: &Sampler,
+    trial: u64,
     history: &[u64],
 ) -> ControlFlow<()> {
-    let (Some(trial), Some(h)) = (trial_of(t), history.get(..before.count)) else {
-        return ControlFlow::Continue(());
-    };
-    if !is_new(&before.sampler, &t.reader.sampler, trial) {
+    if !is_new(before, after, trial) {
         return ControlFlow::Continue(());
     }
-    write_trial(rt, &before.sampler, trial, h)
+    write_trial(rt, before, trial, history)
 }

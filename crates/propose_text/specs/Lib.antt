@@ -1,1 +1,2 @@
 pub mod Array
+pub mod Partial

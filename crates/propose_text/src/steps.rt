@@ -200,7 +200,7 @@ fn call_line(r: Reader, line: &[u8], history: &[u64; 8192]) -> Step
 
 // A reader at the start of the input: the defaults, and no seed.
 #[tactic(auto, unfolding(text_laws::specs::Steps::start_of))]
-pub fn start() -> Reader
+pub(crate) fn start() -> Reader
     ensures { (h : List ℕ) → reading_of result h ≡ start_of }
 {
     Reader {
@@ -212,7 +212,7 @@ pub fn start() -> Reader
 
 // One line of the input, without its newline. The array holds the history from row to row.
 #[tactic(auto, unfolding(text_laws::specs::Steps::step_of))]
-pub fn read_line(r: Reader, line: &[u8], history: &mut [u64; 8192]) -> Step
+pub(crate) fn read_line(r: Reader, line: &[u8], history: &mut [u64; 8192]) -> Step
     ensures step { stepped_of result history.new ≡ step_of (reading_of r history.old) line.now }
     ensures array { history.new ≡ array_of (reading_of r history.old) line.now history.old }
 {
@@ -239,7 +239,7 @@ fn may_end(stage: Stage, rest: &[u8]) -> bool
 
 // The end of the input, with what stands after its last newline.
 #[tactic(auto, unfolding(text_laws::specs::Steps::finish_of))]
-pub fn finish(r: Reader, rest: &[u8]) -> Step
+pub(crate) fn finish(r: Reader, rest: &[u8]) -> Step
     ensures { (h : List ℕ) → stepped_of result h ≡ finish_of (reading_of r h) rest.now }
 {
     if may_end(r.stage, rest) {

@@ -76,16 +76,16 @@ end_of t = finish_of t.reading t.line
 -- ---- up to the next step
 
 -- the text after it, how many bytes that is, and the step; where no byte makes one: all of them, and none
-pub record Taken : Type 0 where
+pub record UpToStep : Type 0 where
   pub text : Partial
   pub used : ℕ
   pub step : Option Stepped
 
-abbrev pub taken_from : Option Stepped → Partial → Taken → Taken
+abbrev pub taken_from : Option Stepped → Partial → UpToStep → UpToStep
 taken_from (Some s) t later = record { text = t; used = 1; step = Some s }
 taken_from None t later = record { text = later.text; used = suc later.used; step = later.step }
 
-unfoldable pub taken_of : Partial → List ℕ → Taken
+unfoldable pub taken_of : Partial → List ℕ → UpToStep
 unfolding byte_of
 taken_of t [] = record { text = t; used = 0; step = None }
 taken_of t (b ∷ rest) = taken_from (byte_of t b).step (byte_of t b).text (taken_of (byte_of t b).text rest)
