@@ -4,7 +4,7 @@ ghost use Rattle.leaf.specs.declared.reply.Failure.TheVariants.{Refused};
 
 use refusal::Refusal;
 
-// The array to whose start a call puts the words of its result. A run's are the most: four for each of 2,045 calls, two,
+// The array to whose start a call puts the words of its result. A run's are the most: up to 8,182 for its calls, two,
 // and two for each of 32 places.
 pub type Results = [u64; 8248];
 
