@@ -1,4 +1,5 @@
--- Document 01's table of causes, for each call as a list in the order of the tests: the number, and whether its cause holds. Nothing here speaks of how a call is served. Definitions only.
+-- Document 01's table of causes, for each call as a list in the order of the tests: the number, and whether its cause
+-- holds. Nothing here speaks of how a call is served. Definitions only.
 use Rattle.std.specs.Prelude.{ℕ, Bool, not, ◌&&◌, cond, List, [], ◌∷◌, eqb, length, is_some, Float}
 use Rattle.arith.specs.Lists.{every}
 use Rattle.factor.specs.Cholesky.{positive}
@@ -18,7 +19,8 @@ abbrev pub first_cause : List (ℕ × Bool) → ℕ
 first_cause [] = 0
 first_cause (t ∷ ts) = cond t.1 t.0 (first_cause ts)
 
--- "refused first, with 11", then "2 to 7 each over all recent rows, lowest number first, in both phases, then 8 or 9"; for a close 11 and 10
+-- "refused first, with 11", then "2 to 7 each over all recent rows, lowest number first, in both phases, then 8 or 9";
+-- for a close 11 and 10
 unfoldable pub cause_of : Sampler → Call → ℕ
 cause_of s (asks d trial h) =
     let n = s.settings.slots in
@@ -38,7 +40,8 @@ cause_of s (asks d trial h) =
     )
 cause_of s (closes trial) = first_cause ((11, not (sampler_ok s)) ∷ (10, eqb (trial_place s.places trial) 32) ∷ [])
 
--- of a fit: "else 11 (any noise is taken; 11 comes before 12)", 12 with no rows, 13 for a pivot not above 0 of the n rows' kernel matrix
+-- of a fit: "else 11 (any noise is taken; 11 comes before 12)", 12 with no rows, 13 for a pivot of the rows' kernel matrix
+-- that is not above 0
 unfoldable pub fit_cause_of : List Float → List Float → ℕ → Float → ℕ
 fit_cause_of x y d noise =
     let n = length y in

@@ -82,7 +82,8 @@ pub record WellFormed : Type 0 where
 
 -- ---- refusals, and what an accepted call does
 
--- a call is refused with the number of its first cause, and accepted where none holds: "All other input is accepted". So are a sampler's making and a fit
+-- a call is refused with the number of its first cause, and accepted where none holds: "All other input is accepted". So
+-- are a sampler's making and a fit
 pub record RefusalsTold : Type 0 where
   pub call : (s : Sampler) (c : Call) → Typed s → call_number (call_of s c) ≡ cause_of s c
   pub made : (s : Settings) → number_of (make_of s) ≡ first_cause ((1, not (settings_ok s)) ∷ [])

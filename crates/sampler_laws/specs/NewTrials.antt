@@ -93,7 +93,8 @@ columns_before s j = length (columns_of s.dimensions.list j)
 abbrev pub choices_before : Sampler → ℕ → ℕ
 choices_before s j = j - columns_before s j
 
--- the words of a new trial's point: the points' drawn for it with a model, after a refused fit one for each continuous dimension
+-- the words of a new trial's point: with a model those of the points drawn, after a refused fit one for each continuous
+-- dimension
 abbrev pub point_words : Sampler → List ℕ → ℕ
 point_words s h = cond (is_ok (fit_answer s h)) (s.settings.n_candidates * continuous s) (continuous s)
 

@@ -1,4 +1,5 @@
--- What an accepted call answers, and what it leaves as it was: settings always, and every place but the trial's own. Nothing here speaks of how a new trial's values are made. Definitions only.
+-- What an accepted call answers, and what it leaves as it was: settings always, and every place but the trial's own.
+-- Nothing here speaks of how a new trial's values are made. Definitions only.
 use Rattle.std.specs.Prelude.{ℕ, ◌+◌, ◌≤◌, ◌<◌, ◌≡◌, true, false, set, T, Some, None, Ok}
 use Rattle.distribution.specs.declared.Distribution.{Distribution}
 use Rattle.distribution.specs.declared.ParamValue.{ParamValue}
