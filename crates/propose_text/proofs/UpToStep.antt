@@ -13,7 +13,7 @@ use Rattle.std.proofs.Common.{take-append-drop}
 use Rattle.std.specs.Prelude.{Option, Some, None}
 use Rattle.std.proofs.Math.Seq.{drop-cons}
 use Rattle.refusal.specs.declared.Refusal.{Refusal}
-use Rattle.text_laws.specs.Pieces.{Partial, Told, UpToStep, has_ended, told_step, byte_of, written_for, Pieced, piece_of, taken_from, taken_of}
+use Rattle.text_laws.specs.Pieces.{Partial, longer, Told, UpToStep, has_ended, told_step, byte_of, written_for, Pieced, piece_of, taken_from, taken_of}
 use Rattle.text_laws.specs.Steps.{Stepped, ends, step_of}
 
 -- ---- bytes that make no step
@@ -22,10 +22,6 @@ pub taken-ended : (t : Partial) (p : List ℕ) → has_ended t.reading.stage ≡
 unfolding taken_of byte_of
 taken-ended t [] h = refl
 taken-ended t (b ∷ p) h = rw h (ap (λ (k : UpToStep). taken_from None t k) (taken-ended t p h))
-
--- n bytes more of its line
-abbrev pub with_bytes : Partial → List ℕ → Partial
-with_bytes t s = record { reading = t.reading; line = t.line ++ s }
 
 abbrev later : ℕ → UpToStep → UpToStep
 later n k = record { text = k.text; used = n + k.used; step = k.step }
@@ -41,18 +37,18 @@ shift : (t : Partial) (n : ℕ) (k : UpToStep) → taken_from None t (later n k)
 shift t n k = ap (λ (i : ℕ). record { text = k.text; used = i; step = k.step }) (omega arith)
 
 taken-front : (t : Partial) (p : List ℕ) (n : ℕ) → has_ended t.reading.stage ≡ false → n ≤ length p → length t.line + n ≤ 2770
-    → ((k : ℕ) → k < n → get_or p k 0 ≡ 10 → ⊥) → taken_of t p ≡ later n (taken_of (with_bytes t (take n p)) (drop n p))
+    → ((k : ℕ) → k < n → get_or p k 0 ≡ 10 → ⊥) → taken_of t p ≡ later n (taken_of (longer t (take n p)) (drop n p))
 unfolding taken_of byte_of
 taken-front t p zero e h r f =
     ap (λ (u : Partial). taken_of u p) (same_partial t) ∙ ap (λ (l : List ℕ). taken_of (record { reading = t.reading; line = l }) p) (sym (append-nil t.line))
-    ∙ same_taken (taken_of (with_bytes t []) p)
+    ∙ same_taken (taken_of (longer t []) p)
 taken-front t [] (suc n) e h r f = absurd (omega arith)
 taken-front t (b ∷ p) (suc n) e h r f =
     let m = length-append t.line (b ∷ []) in
     rw (e, ne_eqb b 10 (f 0 (omega arith)), lt-leb 2770 (length t.line) (omega arith))
-    (ap (taken_from None t) (taken-front (with_bytes t (b ∷ [])) p n e (omega arith) (omega arith) (λ k l. f (suc k) (omega arith)))
+    (ap (taken_from None t) (taken-front (longer t (b ∷ [])) p n e (omega arith) (omega arith) (λ k l. f (suc k) (omega arith)))
     ∙ ap (λ (l : List ℕ). taken_from None t (later n (taken_of (record { reading = t.reading; line = l }) (drop n p)))) (append_snoc t.line b (take n p))
-    ∙ shift t n (taken_of (with_bytes t (b ∷ take n p)) (drop n p)))
+    ∙ shift t n (taken_of (longer t (b ∷ take n p)) (drop n p)))
 
 -- ---- what is taken of a piece
 
@@ -69,19 +65,19 @@ none_after n u = record { text = u; used = n; step = None }
 
 module _ (t : Partial) (p : List ℕ) (n : ℕ) (e : has_ended t.reading.stage ≡ false) (plain : (k : ℕ) → k < n → get_or p k 0 ≡ 10 → ⊥) where
   -- no newline, and room for all of it
-  pub taken-whole : n ≡ length p → length t.line + n ≤ 2770 → taken_of t p ≡ record { text = with_bytes t p; used = n; step = None }
+  pub taken-whole : n ≡ length p → length t.line + n ≤ 2770 → taken_of t p ≡ record { text = longer t p; used = n; step = None }
   unfolding taken_of
   taken-whole h r =
       taken-front t p n e (omega arith) r plain
-      ∙ ap₂ (λ (a b : List ℕ). later n (taken_of (with_bytes t a) b)) (take_all n p (omega arith)) (drop_of_length-le p {i = n} (omega arith))
-      ∙ ap (λ (i : ℕ). record { text = with_bytes t p; used = i; step = None }) (omega arith)
+      ∙ ap₂ (λ (a b : List ℕ). later n (taken_of (longer t a) b)) (take_all n p (omega arith)) (drop_of_length-le p {i = n} (omega arith))
+      ∙ ap (λ (i : ℕ). record { text = longer t p; used = i; step = None }) (omega arith)
 
   -- a newline at n
   pub taken-newline : n < length p → length t.line + n ≤ 2770 → get_or p n 0 ≡ 10 → taken_of t p ≡ step_after n (step_of t.reading (t.line ++ take n p))
   unfolding taken_of byte_of
   taken-newline h r q =
       taken-front t p n e (omega arith) r plain
-      ∙ ap (λ (b : List ℕ). later n (taken_of (with_bytes t (take n p)) b)) (drop-cons p n 0 h ∙ ap (λ (x : ℕ). x ∷ drop (suc n) p) q)
+      ∙ ap (λ (b : List ℕ). later n (taken_of (longer t (take n p)) b)) (drop-cons p n 0 h ∙ ap (λ (x : ℕ). x ∷ drop (suc n) p) q)
       ∙ rw e
 
   -- the line is as long as any table's, and does not end there
@@ -91,7 +87,7 @@ module _ (t : Partial) (p : List ℕ) (n : ℕ) (e : has_ended t.reading.stage �
       let l = length-append t.line (take n p) in
       let m : length (take n p) ≡ n = length-take-le n p (omega arith) in
       taken-front t p n e (omega arith) (omega arith) plain
-      ∙ ap (λ (b : List ℕ). later n (taken_of (with_bytes t (take n p)) b)) (drop-cons p n 0 h)
+      ∙ ap (λ (b : List ℕ). later n (taken_of (longer t (take n p)) b)) (drop-cons p n 0 h)
       ∙ rw (e, ne_eqb (get_or p n 0) 10 q, le-leb 2770 (length (t.line ++ take n p)) (omega arith))
 
 -- ---- a piece, step by step

@@ -5,10 +5,12 @@ use Rattle.propose_lines.specs.Stored.{stored_of, laid_out}
 use Rattle.text_laws.specs.declared.Stage.{Stage}
 use Rattle.text_laws.specs.Steps.{Reading, slots_of, row_words}
 
--- A line with the length and the spaces of a row, where there is room for one, has its words stored behind the history's, up to the first that is none. All else is as before.
+-- A line with the length and the spaces of a row, where there is room for one, has its words stored behind the
+-- history's, up to the first that is none. All else is as before.
 abbrev pub row_stored : Reading → List ℕ → List ℕ → List ℕ
 row_stored r line before =
-    cond (leb (slots_of r.sampler) 20 && leb (length r.history + row_words (slots_of r.sampler)) 8192 && laid_out (row_words (slots_of r.sampler)) line)
+    cond
+    (leb (slots_of r.sampler) 20 && leb (length r.history + row_words (slots_of r.sampler)) 8192 && laid_out (row_words (slots_of r.sampler)) line)
     (stored_of line (row_words (slots_of r.sampler)) (length r.history) before)
     before
 

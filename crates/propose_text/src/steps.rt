@@ -2,7 +2,9 @@
 ghost use Rattle.std.specs.Prelude.{◌≡◌, cond, List, ℕ};
 ghost use Rattle.propose_text.specs.Array.{row_stored, history_stored, array_of};
 ghost use Rattle.refusal.specs.declared.Refusal.{Refusal};
-ghost use Rattle.text_laws.specs.Steps.{Reading, reading_of, stepped_of, awaits, ends, named, settings_of, settings_line, row_line, history_line, call_line, history_named, sampled_of, value_line, told_line, answered_of, start_of, step_of, finish_at, finish_of};
+ghost use Rattle.text_laws.specs.Steps.{Reading, reading_of, stepped_of, awaits, ends, named, start_of, step_of};
+ghost use Rattle.text_laws.specs.Steps.{settings_of, settings_line, history_named, history_line, row_line, call_line};
+ghost use Rattle.text_laws.specs.Steps.{sampled_of, value_line, told_line, answered_of, finish_at, finish_of};
 ghost use Rattle.text_laws.specs.declared.Event.{Event};
 ghost use Rattle.text_laws.specs.declared.Stage.{Stage};
 
@@ -228,7 +230,8 @@ pub(crate) fn read_line(r: Reader, line: &[u8], history: &mut [u64; 8192]) -> St
 
 // Whether a text may end where this line is awaited, with what stands after its last newline.
 fn may_end(stage: Stage, rest: &[u8]) -> bool
-    ensures { (r : Reading) → finish_at stage r rest.now ≡ cond result (awaits Stage.Ended Event.Nothing r) (ends Refusal.Text r) }
+    ensures { (r : Reading) →
+        finish_at stage r rest.now ≡ cond result (awaits Stage.Ended Event.Nothing r) (ends Refusal.Text r) }
 {
     match stage {
         Stage::Calls => rest.is_empty(),

@@ -37,12 +37,12 @@ struct Put {
 }
 
 impl Text {
-    ghost use Rattle.std.specs.Prelude.{◌≡◌, ◌+◌, ◌++◌, ◌<◌, [], length, take};
+    ghost use Rattle.std.specs.Prelude.{◌≡◌, ◌+◌, ◌<◌, length, take};
     ghost use Rattle.std.proofs.Math.Seq.{paste};
-    ghost use Rattle.propose_text.specs.Partial.{partial_of, told_of, taken_in, put_first};
+    ghost use Rattle.propose_text.specs.Partial.{partial_of, told_of, taken_in, written_next, put_first};
     ghost use Rattle.refusal.specs.declared.Refusal.{Refusal};
-    ghost use Rattle.text_laws.specs.Pieces.{Partial, begun, has_ended, told_step, written_for, piece_of, taken_of, end_of};
-    ghost use Rattle.text_laws.specs.Steps.{ends, step_of};
+    ghost use Rattle.text_laws.specs.Pieces.{begun, longer, line_end, end_of, has_ended, told_step, piece_of, taken_of};
+    ghost use Rattle.text_laws.specs.Steps.{ends};
 
     // A text of which nothing is read yet.
     #[tactic(auto, unfolding(text_laws::specs::Steps::start_of))]
@@ -81,7 +81,7 @@ impl Text {
     // Keeps bytes of a line whose end is not read yet.
     fn keep(&mut self, bytes: &[u8])
         requires { length (partial_of self.old).line + length bytes.now ≤ 2770 }
-        ensures { partial_of self.new ≡ record { reading = (partial_of self.old).reading; line = (partial_of self.old).line ++ bytes.now } }
+        ensures { partial_of self.new ≡ longer (partial_of self.old) bytes.now }
     {
         let end = self.len + bytes.len();
         self.line[self.len..end].copy_from_slice(bytes);
@@ -90,7 +90,7 @@ impl Text {
 
     // Ends the line that is kept.
     fn end_line(&mut self) -> Step
-        ensures { told_of result self.new ≡ told_step (step_of (partial_of self.old).reading (partial_of self.old).line) }
+        ensures { told_of result self.new ≡ told_step (line_end (partial_of self.old)) }
     {
         let t = read_line(self.reader, &self.line[..self.len], &mut self.history);
         self.reader = t.reader;
@@ -146,11 +146,11 @@ impl Text {
         requires { at + 68 ≤ 65280 }
         ensures text { partial_of self.new ≡ (taken_of (partial_of self.old) piece.now).text }
         ensures used { result.used ≡ (taken_of (partial_of self.old) piece.now).used }
-        ensures count { result.put ≡ length (written_for (taken_of (partial_of self.old) piece.now).step) }
+        ensures count { result.put ≡ length (written_next self.old piece.now) }
         ensures few { result.put ≤ 68 }
         ensures part { result.used ≤ length piece.now }
         ensures some { 0 < length piece.now → 1 ≤ result.used }
-        ensures bytes { out.new ≡ paste out.old at (written_for (taken_of (partial_of self.old) piece.now).step) result.put }
+        ensures bytes { out.new ≡ paste out.old at (written_next self.old piece.now) result.put }
     {
         let taken = self.take_line(piece);
         let put = match &taken.step {

@@ -12,7 +12,7 @@ use Rattle.text_laws.specs.declared.Stage.{Stage}
 use Rattle.propose_lines.specs.Lines.{answer_line}
 use Rattle.propose_lines.specs.Names.{answer_names}
 use Rattle.text_laws.specs.Laws.{PiecesAnswered}
-use Rattle.text_laws.specs.Pieces.{Partial, Told, begun, has_ended, told_step, no_step, byte_of, written_for, piece_of, pieces_of, end_of}
+use Rattle.text_laws.specs.Pieces.{Partial, Told, begun, has_ended, told_step, no_step, longer, line_end, byte_of, written_for, piece_of, pieces_of, end_of}
 use Rattle.text_laws.specs.Steps.{Reading, Stepped, ends, finish_at, step_of, finish_of}
 use Rattle.text_laws.specs.Texts.{read_of, ended, written_of, joined}
 use Rattle.text_laws.proofs.Cut.{silent}
@@ -69,9 +69,9 @@ IsHeld t = length t.line ≤ 2770
 abbrev byte_as : Partial → ℕ → Bool → Bool → Bool → Told
 byte_as t b x y z =
     cond x (no_step t)
-    (cond y (told_step (step_of t.reading t.line))
+    (cond y (told_step (line_end t))
     (cond z (told_step (ends Refusal.Text t.reading))
-    (no_step (record { reading = t.reading; line = t.line ++ (b ∷ []) }))))
+    (no_step (longer t (b ∷ [])))))
 
 byte-held : (t : Partial) (b : ℕ) → IsHeld t → IsHeld (byte_of t b).text
 unfolding byte_of

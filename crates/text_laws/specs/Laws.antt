@@ -28,10 +28,11 @@ pub record TextAnswers : Type 0 where
       → ((ws rest : List ℕ) → Words 5 ws → settings_ok (settings_of ws) ≡ false → text ≡ head_of ws ++ rest → ⊥)
       → written_of text ≡ ended answer_names ++ answer_line 0 0 14 0
 
--- "a line longer than any table has" is 14 before its end is read
+-- a line that is longer than any of the three tables has is 14 before its end is read
 abbrev pub LongLines : Type 0
 LongLines = (r : Reading) (line : List ℕ) → (r.stage ≡ Stage.Ended → ⊥) → 2770 < length line → step_of r line ≡ ends Refusal.Text r
 
--- whatever pieces a text comes in: what is written first, piece by piece and at the end is what is written for the pieces joined
+-- whatever pieces a text comes in: what is written first, piece by piece and at the end is what is written for the
+-- pieces joined
 abbrev pub PiecesAnswered : Type 0
 PiecesAnswered = (pieces : List (List ℕ)) → ended answer_names ++ ((pieces_of begun pieces).written ++ (end_of (pieces_of begun pieces).text).written) ≡ written_of (joined pieces)

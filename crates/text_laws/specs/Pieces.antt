@@ -12,6 +12,18 @@ pub record Partial : Type 0 where
 abbrev pub begun : Partial
 begun = record { reading = start_of; line = [] }
 
+-- bytes more of its line
+abbrev pub longer : Partial → List ℕ → Partial
+longer t bytes = record { reading = t.reading; line = t.line ++ bytes }
+
+-- the end of its line
+abbrev pub line_end : Partial → Stepped
+line_end t = step_of t.reading t.line
+
+-- the end of the input
+abbrev pub end_of : Partial → Stepped
+end_of t = finish_of t.reading t.line
+
 abbrev pub has_ended : Stage → Bool
 has_ended Stage.SettingsNames = false
 has_ended Stage.Settings = false
@@ -34,14 +46,15 @@ told_step s = record { text = record { reading = s.reading; line = [] }; step = 
 abbrev pub no_step : Partial → Told
 no_step t = record { text = t; step = None }
 
--- A run that has ended takes no notice of a byte. A newline ends its line. A line that would get longer than any table's, which is a row of 20 slots, 163 words in 2,770 bytes, ends the run at once.
--- Any other byte is one more of its line.
+-- A run that has ended takes no notice of a byte. A newline ends its line. A line that would get longer than any
+-- table's, which is a row of 20 slots, 163 words in 2,770 bytes, ends the run at once. Any other byte is one more of
+-- its line.
 unfoldable pub byte_of : Partial → ℕ → Told
 byte_of t b =
     cond (has_ended t.reading.stage) (no_step t)
-    (cond (eqb b 10) (told_step (step_of t.reading t.line))
+    (cond (eqb b 10) (told_step (line_end t))
     (cond (leb 2770 (length t.line)) (told_step (ends Refusal.Text t.reading))
-    (no_step (record { reading = t.reading; line = t.line ++ (b ∷ []) }))))
+    (no_step (longer t (b ∷ [])))))
 
 -- ---- a piece
 
@@ -60,18 +73,20 @@ unfoldable pub piece_of : Partial → List ℕ → Pieced
 unfolding byte_of
 piece_of t [] = record { text = t; written = [] }
 piece_of t (b ∷ rest) =
-    record { text = (piece_of (byte_of t b).text rest).text; written = written_for (byte_of t b).step ++ (piece_of (byte_of t b).text rest).written }
+    record {
+      text = (piece_of (byte_of t b).text rest).text;
+      written = written_for (byte_of t b).step ++ (piece_of (byte_of t b).text rest).written;
+    }
 
 -- piece after piece
 unfoldable pub pieces_of : Partial → List (List ℕ) → Pieced
 unfolding piece_of
 pieces_of t [] = record { text = t; written = [] }
 pieces_of t (p ∷ rest) =
-    record { text = (pieces_of (piece_of t p).text rest).text; written = (piece_of t p).written ++ (pieces_of (piece_of t p).text rest).written }
-
--- the end of the input
-abbrev pub end_of : Partial → Stepped
-end_of t = finish_of t.reading t.line
+    record {
+      text = (pieces_of (piece_of t p).text rest).text;
+      written = (piece_of t p).written ++ (pieces_of (piece_of t p).text rest).written;
+    }
 
 -- ---- up to the next step
 
