@@ -10,8 +10,8 @@ mod sums;
 
 pub use posteriors::posterior_sums;
 
-// Of the kernel vector k of each of eight points: k · α, the mean, and k · (K + σ² I)⁻¹ k, which the variance is 1
-// less.
+// Of the kernel vector k of each of eight points: k · α, the mean, and k · (K + σ² I)⁻¹ k, by which the variance is
+// less than 1.
 #[derive(Clone, Copy)]
 pub struct PosteriorSums {
     pub means: [f64; 8],
