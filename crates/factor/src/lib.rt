@@ -1,4 +1,5 @@
-// The Cholesky factor of a symmetric matrix of up to 100 rows, packed as its lower triangle, and the solution of a system by it.
+// The Cholesky factor of a symmetric matrix of up to 100 rows, packed as its lower triangle, and the solution of a
+// system by it.
 #![tactic(auto)]
 
 ghost use Rattle.std.specs.Prelude.{◌≡◌, ℕ, ◌+◌, ◌-◌, ◌≤◌, ◌<◌, get_or, take};

@@ -78,7 +78,8 @@ fn fitted(x: &Table, y: &[f64], noise_var: f64) -> Result<Model, Refusal>
     Ok(model(x, y, lengthscales, cholesky))
 }
 
-// The model of n rows of d columns, row after row, and n values: 11 outside its domain, 12 without rows, 13 where a pivot is not above 0.
+// The model of n rows of d columns, row after row, and n values: 11 outside its domain, 12 without rows, 13 where a
+// pivot is not above 0.
 #[tactic(auto, unfolding(crate::specs::Fit::fit_of))]
 pub fn fit_gp(x: &[f64], y: &[f64], d: usize, noise_var: f64) -> Result<Model, Refusal>
     ensures { result ≡ fit_of x.now y.now d noise_var }

@@ -9,7 +9,8 @@ mod tables;
 pub use fitting::fit_gp;
 pub use statistics::all_within;
 
-// A fitted model: its n rows of d columns, lengthscales, factor, weights and best value. What lies past the counts is zero.
+// A fitted model: its n rows of d columns, lengthscales, factor, weights and best value. What lies past the counts is
+// zero.
 // Kept: arrays with their counts, since memory is fixed; what reads them takes slices or references.
 #[derive(Clone, Copy)]
 pub struct Model {

@@ -15,7 +15,8 @@ fn at_points(
     cholesky: &[f64; 5050],
     alpha: &[f64],
 ) -> PosteriorSums
-    requires { let d = length lengthscales.now in (n ≤ 100) × (d ≤ 20) × (n * d ≤ length x.now) × (n ≤ length alpha.now) }
+    requires { let d = length lengthscales.now in
+        (n ≤ 100) × (d ≤ 20) × (n * d ≤ length x.now) × (n ≤ length alpha.now) }
     ensures { result ≡ at_points_of points.now x.now n lengthscales.now cholesky.now alpha.now }
 {
     let k = kernels::kernel_rows(points, x, n, lengthscales);

@@ -1,8 +1,9 @@
-// The leaves of `kernel`, `gp_model` and `search`: counts, then floats as words. A line whose words are not as many as
-// its counts say is none of these.
+// The leaves of `kernel`, `gp_model` and `search`, a search by `generator`: counts, then floats as words. A line whose
+// words are not as many as its counts say is none of these.
 ghost use Rattle.std.specs.Prelude.{◌≡◌, ◌≤◌, length, IfOk};
 
 use crate::reply::{Failure, Reply, Results, Written, exactly, put, put_float};
+use generator::Generator;
 use gp_model::Model;
 use search::Candidate;
 
@@ -132,13 +133,13 @@ pub(crate) fn predict(args: &[u64], results: &mut Results) -> Reply {
     )
 }
 
-// The point found, of d coordinates, and the next word. It has at most 20.
-fn put_point(found: Candidate, d: usize, results: &mut Results) -> Reply {
+// The point found, of d coordinates, and the generator's word after it. It has at most 20.
+fn put_point(found: Candidate, d: usize, word: u64, results: &mut Results) -> Reply {
     if d > 20 {
         return Err(Failure::Unreadable);
     }
     put_floats(&mut results[..d], &found.x[..d]);
-    results[d] = found.next;
+    results[d] = word;
     Ok(Written { words: d + 1 })
 }
 
@@ -146,6 +147,7 @@ pub(crate) fn optimize_acquisition(args: &[u64], results: &mut Results) -> Reply
     let (m, words) = fitted(args, 2)?;
     let [candidates, word]: [u64; 2] = exactly(words)?;
     let d = m.d;
-    let found = search::optimize_acquisition(m, d, candidates, word)?;
-    put_point(found, d, results)
+    let mut g = Generator { word };
+    let found = generator::optimize_acquisition(&mut g, m, d, candidates)?;
+    put_point(found, d, g.word, results)
 }
