@@ -2,6 +2,7 @@
 use crate::reply::{Failure, Reply, Results, exactly, put, put_float};
 use distribution::{Distribution, ParamValue};
 use distribution_words::Words;
+use generator::Generator;
 use refusal::Refusal;
 
 // Six words by their names.
@@ -94,7 +95,8 @@ pub(crate) fn sample_random(args: &[u64], results: &mut Results) -> Reply {
         return Err(Failure::Unreadable);
     };
     let d = distribution(words)?;
-    let r = common::sample_random(*state, d)?;
+    let mut g = Generator { word: *state };
+    let r = generator::sample_random(&mut g, d)?;
     let [kind, word] = kind_and_word(r.value);
-    put([kind, word, r.drawn, r.next], results)
+    put([kind, word, r.drawn, g.word], results)
 }
