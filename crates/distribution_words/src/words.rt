@@ -1,11 +1,9 @@
-// The six words of a distribution.
+// The distribution of six words.
 ghost use Rattle.std.specs.Prelude.{◌≡◌, Some};
-ghost use Rattle.distribution.specs.Shape.{shape_of, where_formed};
 ghost use Rattle.distribution_words.specs.RoundTrip.{RoundTrip};
-ghost use Rattle.distribution_words.specs.Words.{words_of, read_of, checked_of, number_words, flags_ok, number_of, only};
+ghost use Rattle.distribution_words.specs.Words.{read_of, checked_of, flags_ok, number_of, only};
 
 use distribution::{CategoricalDistribution, Distribution, NumberDistribution, well_formed};
-use refusal::Refusal;
 
 // The six words that say a distribution, or none.
 #[derive(Clone, Copy)]
@@ -16,42 +14,6 @@ pub struct Words {
     pub log: u64,
     pub stepped: u64,
     pub step: u64,
-}
-
-// The words of a distribution of numbers, by the words of its numbers; without a step its word is 0.
-fn number_words(kind: u64, d: NumberDistribution<u64>) -> [u64; 6]
-    ensures { result ≡ number_words (λ w. w) kind d }
-{
-    [
-        kind,
-        d.low,
-        d.high,
-        u64::from(d.log_scale),
-        u64::from(d.step.is_some()),
-        d.step.unwrap_or(0),
-    ]
-}
-
-// The words of a distribution: kind, low, high, log, stepped, step.
-#[tactic(auto, unfolding(crate::specs::Words::words_of))]
-fn written(d: Distribution) -> [u64; 6]
-    ensures { result ≡ words_of d }
-{
-    match d {
-        Distribution::Float(f) => number_words(1, f.map(arith::word_of_float)),
-        Distribution::Int(i) => number_words(2, i.map(arith::word_of_int)),
-        Distribution::Categorical(c) => [3, c.n_choices, 0, 0, 0, 0],
-    }
-}
-
-// The same of a well-formed one: 11 where it is malformed.
-pub fn words_of(d: Distribution) -> Result<[u64; 6], Refusal>
-    ensures { result ≡ where_formed (shape_of d) (words_of d) }
-{
-    if !well_formed(d) {
-        return Err(Refusal::OutOfDomain);
-    }
-    Ok(written(d))
 }
 
 // A distribution where it is well-formed.

@@ -1,4 +1,4 @@
--- How many rows and columns training data have at most, and how long their arrays are. A statement, proved in proofs/Counts where the data are not refused.
+-- How many rows and columns training data that are not refused have at most, and how long their arrays are. A statement.
 use Rattle.std.specs.Prelude.{◌≤◌, ◌≡◌, length}
 use Rattle.history.specs.declared.Training.{Training}
 

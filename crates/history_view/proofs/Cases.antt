@@ -1,16 +1,16 @@
 -- The view and agreement at small histories, computed. Assumes nothing.
-use Prim.Native.Nat.{ℕ, zero, suc, ◌<◌}
+use Prim.Native.Nat.{ℕ, zero, suc, ◌<◌, ◌*◌}
 use native.Mathlib.Omega.{arith}
 use mathlib.Core.Logic.{inl, inr}
 use mathlib.Core.Path.{◌≡◌, refl, ap, ◌∙◌, subst}
-use mathlib.Core.Bool.{true, false}
+use mathlib.Core.Bool.{Bool, true, false}
 use mathlib.Core.List.Permᴰ
 use mathlib.Core.List.{List, [], ◌∷◌, ◌++◌}
 use lib.Dec.{T, T_not, eqb}
-use lib.ListN.{get_or}
+use lib.ListN.{get_or, take}
 use Rattle.std.specs.Prelude.{Ok, Err}
 use Rattle.refusal.specs.declared.Refusal.TheVariants.{BrokenRows}
-use lib.Ieee.{of_bits, of_int, to_bits, neg, le, lt, eq, sub, div, round}
+use lib.Ieee.{Float, binary64, of_bits, of_int, to_bits, neg, le, lt, eq, sub, div, round}
 use Rattle.arith.specs.Outcome.{made}
 use Rattle.arith.specs.Lists.{every, grown, place_of, places_of}
 use Rattle.encoding.specs.Bounds.{ends_of, bounds_of}
@@ -29,16 +29,25 @@ use Rattle.history_rows.specs.Tests.{row_ok, slots_ok, ids_once, rows_agreeing, 
 use Rattle.slots.specs.Slot.{slot_read, slot_ok, agreeing}
 use Rattle.history_rows.specs.Slots.{slot_with}
 use Rattle.history.specs.Training.{covers_of, trains_of, entry_of, column_of, kept_of, x_of, y_of, recent_training, training_of}
+use Rattle.history_view.specs.declared.View.{View}
 use Rattle.history_view.specs.View.{view_of}
 use Rattle.history_rows.proofs.Samples.{slot, absent, row, rows}
 use Rattle.history.proofs.SameRow.{each-slot}
 use Rattle.param_mapping.proofs.Samples.{dims, first, second, third}
 
+-- whether start-up is reached, rows, columns, and the values and objectives of the rows
+abbrev shown : View → Bool × ℕ × ℕ × List Float × List Float
+shown v = let t = v.training in (v.reached, t.n, t.d, take (t.n * t.d) t.x, take t.n t.y)
+
+-- of two rows of two columns: 2/4, 1/4, then 4/4, 3/4
+abbrev two : Bool → Bool × ℕ × ℕ × List Float × List Float
+two reached = (reached, 2, 2, of_bits binary64 0x3fe0000000000000 ∷ of_bits binary64 0x3fd0000000000000 ∷ of_bits binary64 0x3ff0000000000000 ∷ of_bits binary64 0x3fe8000000000000 ∷ [], of_bits binary64 0x3ff0000000000000 ∷ of_bits binary64 0x4000000000000000 ∷ [])
+
 abbrev Viewed : Type 0
 Viewed =
     -- start-up is reached at the count and not one under it, and a history that is refused is not seen
-    (made (λ v. v.reached) (view_of 3 3 dims 3 (first ++ second ++ third)) ≡ Ok true)
-    × (made (λ v. v.reached) (view_of 3 4 dims 3 (first ++ second ++ third)) ≡ Ok false)
+    (made shown (view_of 3 3 dims 3 (first ++ second ++ third)) ≡ Ok (two true))
+    × (made shown (view_of 3 4 dims 3 (first ++ second ++ third)) ≡ Ok (two false))
     × (view_of 3 0 dims 3 (7 ∷ first) ≡ Err BrokenRows)
 
 viewed : Viewed

@@ -1,4 +1,4 @@
--- What is accepted is usable: training data that are not refused meet the fit's domain. A statement, proved in proofs/Usable.
+-- What is accepted is usable: training data that are not refused meet the fit's domain. A statement.
 use Rattle.std.specs.Prelude.{ℕ, ◌*◌, ◌≤◌, ◌<◌, ◌≡◌, true, List, T, take, Ok}
 use Rattle.std.specs.Float.{binary64}
 use Rattle.std.specs.Float.Ieee.{fits}

@@ -1,4 +1,4 @@
--- "All other input is accepted": what passes the tests of a new trial has values. A statement, proved in proofs/Accepted.
+-- "All other input is accepted": what passes the tests of a new trial has values. A statement.
 use Rattle.std.specs.Prelude.{ℕ, ◌^◌, ◌<◌, ◌≡◌, List, T, Ok, is_ok}
 use Rattle.std.specs.Float.{binary64}
 use Rattle.std.specs.Float.Ieee.{fits}

@@ -44,8 +44,8 @@ use Rattle.sampler_state.specs.declared.Sampler.{Sampler}
 use Rattle.sampler_laws.specs.Calls.{refused_of, answered_of, with_word, with_place, activated, written_of, discover_of, serving_of, active_of, served_of, sample_of, close_of}
 use Rattle.sampler_laws.specs.Laws.{words_taken}
 use Rattle.sampler_laws.specs.NewTrials.{new_trial, served_history, fit_made, fit_answer, has_model, continuous, choices, point_drawn}
-use Rattle.sampler_laws.specs.Runs.{Asked, Call, asks, closes, drawn_in, answers_of, end_of}
-use Rattle.sampler_state.specs.State.{empty_place, fresh_of, place_at, trial_place, free_place, spot_for, stored_at, taken_count, place_ok, trials_once, sampler_ok}
+use Rattle.sampler_laws.specs.Runs.{Asked, Call, asks, closes, answers_of, end_of}
+use Rattle.sampler_state.specs.State.{empty_place, fresh_of, place_at, trial_place, free_place, spot_for, taken_count, place_ok, trials_once, sampler_ok}
 
 -- start-up 10, no candidates, no noise, seed 1, one slot
 abbrev fresh : Sampler
@@ -86,9 +86,9 @@ abbrev Run : Type 0
 Run =
     (first.answer ≡ told (ParamValue.Categorical 1) 1)
     × (second.answer ≡ told (ParamValue.Int (pos 5)) 1)
-    × (drawn_in third ≡ 2)
-    × (drawn_in fourth ≡ 0)
-    × (drawn_in fifth ≡ 1)
+    × (third.answer ≡ told (ParamValue.Categorical 2) 2)
+    × (fourth.answer ≡ told (ParamValue.Int (pos 5)) 0)
+    × (fifth.answer ≡ told (ParamValue.Int (pos 3)) 1)
     × (taken_count fifth.sampler.places ≡ 1)
     × (closed.answer ≡ Ok (record { value = None; drawn = 0 }))
     × (taken_count closed.sampler.places ≡ 0)
@@ -158,14 +158,13 @@ before = with_place fresh 0 (Some (at 1))
 abbrev put : Result Serving Refusal → Sampled
 put r = answered_of before (made (written_of before 3) r)
 
+-- what a new trial 8 leaves
+abbrev new : Place
+new = record { trial = 8; values = filled empty_value 20 (ParamValue.Categorical 1 ∷ ParamValue.Int (pos 5) ∷ []); next_dim = 1 }
+
 -- a value served, with the words drawn and the generator's next word, and the place left
 abbrev serving : ParamValue → ℕ → ℕ → Place → Result Serving Refusal
 serving v drawn next p = Ok (record { draw = record { value = v; drawn = drawn; next = next }; place = p })
-
--- of a serving that is not refused
-abbrev left : Result Serving Refusal → Place
-left (Ok v) = v.place
-left (Err c) = at 0
 
 abbrev Servings : Type 0
 Servings =
@@ -174,9 +173,7 @@ Servings =
     -- past the last a draw, and the place as it was
     × (serve (Some (at 2)) ≡ serving (ParamValue.Int (pos 1)) 1 0x40822041 (at 2))
     -- a free place: a new trial; both values drawn and stored, the first answered
-    × (serve empty_place ≡ serving (ParamValue.Categorical 1) 2 0x100041060c011441 (left (serve empty_place)))
-    × (stored_at (left (serve empty_place)) 1 ≡ ParamValue.Int (pos 5))
-    × ((left (serve empty_place)).next_dim ≡ 1)
+    × (serve empty_place ≡ serving (ParamValue.Categorical 1) 2 0x100041060c011441 new)
     -- put back: its place, no other, and its word; a refused one leaves all as it was
     × (place_at (put (serve (Some (at 1)))).sampler.places 3 ≡ Some (at 2))
     × (place_at (put (serve (Some (at 2)))).sampler.places 0 ≡ Some (at 1))
@@ -186,7 +183,7 @@ Servings =
 
 servings : Servings
 unfolding sample_of close_of discover_of serving_of active_of served_of trial_place free_place spot_for taken_count place_ok trials_once sampler_ok settings_ok candidate_of compute_candidate_of step_of walk_of view_of training_of recent_training asked_of dimension_ok dimensions_ok columns_of whole_rows row_count recent_count recent_of recent_tests check_of bounds_of ends_of sample_random_of random_of int_random linear_int_random categorical_random shape_of int_shape int_step categorical_shape read_of checked_of word_draw_of whole_draw_of whole_of range_ok step every grown place_of places_of of_bits to_bits of_int le lt eq neg
-servings = (refl, refl, refl, refl, refl, refl, refl, refl, refl, refl)
+servings = (refl, refl, refl, refl, refl, refl, refl, refl)
 
 -- ---- runs from the seed 42, whose words among 5 and among 10 are 4 4, 1 1, 4 4, 1 6, 2 2, 2 7, 0 5
 

@@ -95,7 +95,7 @@ serving_for s d trial h =
 abbrev pub spot_of : Sampler → ℕ → ℕ
 spot_of s trial = spot_for s.places trial
 
--- "new trial, 32 places taken 9"
+-- "new trial, 32 places taken": 9
 unfoldable pub active_of : Sampler → Distribution → ℕ → List ℕ → Result Accepted Refusal
 unfolding serving_of spot_for
 active_of s d trial h =
@@ -110,7 +110,7 @@ served_of s d trial h =
 
 -- ---- the calls
 
--- "asked distribution malformed 2", then the history's number
+-- "asked distribution malformed": 2, then the history's number
 abbrev pub asked_of : Sampler → Option Distribution → ℕ → List ℕ → Result Accepted Refusal
 asked_of s None trial h = Err Malformed
 asked_of s (Some d) trial h = result_and (check_of s.settings.slots h) (served_of s d trial h)
@@ -126,7 +126,7 @@ freed_of s trial =
     let t = with_place s (trial_place s.places trial) empty_place in
     record { answer = record { value = None; drawn = 0 }; sampler = t }
 
--- "close of a trial without a place 10"
+-- "close of a trial without a place": 10
 unfoldable pub close_of : Sampler → ℕ → Sampled
 unfolding sampler_ok
 close_of s trial =

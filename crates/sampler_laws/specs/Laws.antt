@@ -1,4 +1,4 @@
--- What is promised of the calls, for every sampler and every run. Statements only, proved in proofs/.
+-- What is promised of the calls, for every sampler and every run. Statements, and the definitions that they use.
 use Rattle.std.specs.Prelude.{ℕ, ◌+◌, ◌*◌, ◌^◌, ◌<◌, ◌≡◌, Bool, false, not, ◌&&◌, ◌||◌, cond, List, [], ◌∷◌, T, eqb, ltb, length, get_or, Float, Option, Some, None, Ok, Err, is_ok}
 use Rattle.std.specs.Float.{binary64}
 use Rattle.std.specs.Float.Ieee.{fits}
@@ -15,6 +15,7 @@ use Rattle.common.specs.Random.{sample_random_of}
 use Rattle.dimensions.specs.Dimensions.{dimension_at}
 use Rattle.dimensions.specs.Empty.{empty_value}
 use Rattle.history_rows.specs.Tests.{check_of}
+use Rattle.history_view.specs.Agree.{Agree}
 use Rattle.settings.specs.declared.Settings.{Settings}
 use Rattle.settings.specs.Settings.{settings_ok}
 use Rattle.gp_model.specs.Fit.{fit_of}
@@ -24,19 +25,22 @@ use Rattle.sampler_state.specs.declared.Sampler.{Sampler}
 use Rattle.sampler_laws.specs.declared.Answer.{Answer}
 use Rattle.sampler_laws.specs.Causes.{first_cause, cause_of, fit_cause_of}
 use Rattle.sampler_laws.specs.NewTrials.{new_trial, served_history, fit_made, fit_answer, has_model, continuous, choices, RandomStored, BestStored}
-use Rattle.sampler_laws.specs.Runs.{Asked, asks, closes, Call, call_of, call_number, drawn_in, answers_of, end_of, Along, Alike}
+use Rattle.sampler_laws.specs.Runs.{Asked, asks, closes, Call, call_of, call_number, drawn_in, answers_of, end_of, with_histories, Along, Alike}
 use Rattle.sampler_laws.specs.Served.{ServedRight}
 use Rattle.sampler_state.specs.State.{fresh_of, make_of, trial_place, held_by, taken_count, stored_ok, sampler_ok}
 
 -- ---- demand 3, one statement about the whole list
 
--- the same calls with histories that agree: "then answers, words drawn and end state are equal in both runs". "In each run, every new trial with a model stores .." the decoding of the best point, whatever the histories
+-- the same calls with histories that agree: "then answers, words drawn and end state are equal in both runs". "In each
+-- run, every new trial with a model stores .." the decoding of the best point, whatever the histories. Compared are all
+-- runs that "differ only in the histories", where these agree
 abbrev pub EqualRuns : Type 0
 EqualRuns =
     (s : Settings) → T (settings_ok s) → (cs ds : List Call)
     → (Alike s.slots s.n_startup_trials cs ds → (answers_of (fresh_of s) cs ≡ answers_of (fresh_of s) ds) × (end_of (fresh_of s) cs ≡ end_of (fresh_of s) ds))
     × Along BestStored (fresh_of s) cs
     × Along BestStored (fresh_of s) ds
+    × ((g h : ℕ → List ℕ) → ((i : ℕ) → Agree s.slots s.n_startup_trials (g i) (h i)) → Alike s.slots s.n_startup_trials (with_histories g cs) (with_histories h cs))
 
 -- ---- words drawn
 

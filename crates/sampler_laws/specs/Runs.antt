@@ -1,6 +1,6 @@
 -- Runs of calls, and two runs whose histories agree. Definitions only.
 use Rattle.refusal.specs.Numbers.{number_of}
-use Rattle.std.specs.Prelude.{ℕ, List, [], ◌∷◌, Option, Result, Ok, Err}
+use Rattle.std.specs.Prelude.{ℕ, ◌+◌, List, [], ◌∷◌, Option, Result, Ok, Err}
 use Rattle.refusal.specs.declared.Refusal.{Refusal}
 use Rattle.distribution.specs.declared.Distribution.{Distribution}
 use Rattle.distribution_words.specs.Words.{read_of}
@@ -58,6 +58,15 @@ pub data Alike (n startup : ℕ) : List Call → List Call → Type 0 where
   alike-none : Alike n startup [] []
   alike-asks : (d : Asked) (trial : ℕ) (g h : List ℕ) {cs ds : List Call} → Agree n startup g h → Alike n startup cs ds → Alike n startup (asks d trial g ∷ cs) (asks d trial h ∷ ds)
   alike-closes : (trial : ℕ) {cs ds : List Call} → Alike n startup cs ds → Alike n startup (closes trial ∷ cs) (closes trial ∷ ds)
+
+-- the same call with another history, and the same calls each with its own
+abbrev pub with_history : List ℕ → Call → Call
+with_history h (asks d trial g) = asks d trial h
+with_history h (closes trial) = closes trial
+
+unfoldable pub with_histories : (ℕ → List ℕ) → List Call → List Call
+with_histories h [] = []
+with_histories h (c ∷ cs) = with_history (h 0) c ∷ with_histories (λ i. h (i + 1)) cs
 
 -- each call of a run, on the sampler that it gets
 unfoldable pub Along : (Sampler → Call → Type 0) → Sampler → List Call → Type 0

@@ -1,16 +1,32 @@
--- Places looked up and counted, computed: a trial's place, the empty one where it has none, and where a place is written. Assumes nothing.
+-- A sampler made, and places looked up and counted, computed: a trial's place, the empty one where it has none, and where a place is written. Assumes nothing.
 use Prim.Native.Nat.{ℕ}
 use mathlib.Core.Path.{◌≡◌, refl}
 use mathlib.Core.Bool.{true, false}
 use mathlib.Core.List.{List, [], ◌∷◌}
 use lib.ListN.{replicate, set}
 use lib.IntN.{pos}
+use lib.Ieee.{binary64, of_bits}
 use Rattle.arith.specs.Lists.{every, filled, place_of, places_of}
 use Rattle.distribution.specs.declared.ParamValue.{ParamValue}
 use Rattle.dimensions.specs.Empty.{empty_value}
+use Rattle.settings.specs.declared.Settings.{Settings}
 use Rattle.std.specs.Prelude.{Option, Some}
 use Rattle.sampler_state.specs.declared.Place.{Place}
-use Rattle.sampler_state.specs.State.{empty_place, trial_place, free_place, held_by, spot_for, taken_count, trials_once}
+use Rattle.sampler_state.specs.State.{empty_place, fresh_of, trial_place, free_place, held_by, spot_for, taken_count, trials_once}
+
+-- no two of the numbers alike, and a noise of 1
+abbrev settings : Settings
+settings = record { n_startup_trials = 3; n_candidates = 5; noise_variance = of_bits binary64 0x3ff0000000000000; seed = 7; slots = 2 }
+
+abbrev Fresh : Type 0
+Fresh =
+    ((fresh_of settings).settings ≡ settings)
+    × ((fresh_of settings).word ≡ 7)
+    × ((fresh_of settings).active ≡ false)
+    × ((fresh_of settings).dimensions.count ≡ 0)
+
+fresh : Fresh
+fresh = (refl, refl, refl, refl)
 
 -- a place of a trial with the values 2 and 7 and a next dimension
 abbrev place : ℕ → ℕ → Option Place

@@ -9,7 +9,7 @@ pub use checking::sampler_ok;
 use dimensions::Dimensions;
 use distribution::ParamValue;
 pub use making::{build, fresh};
-pub use places::{find, free_place, taken_count, trial_place};
+pub use places::{find, taken_count, trial_place};
 use settings::Settings;
 
 // What a progress place holds: the trial, its values and the dimension to serve next.

@@ -19,7 +19,7 @@ pub fn trial_place(places: &[Option<Place>; 32], trial: u64) -> Option<usize>
 }
 
 // The index of the first free place.
-pub fn free_place(places: &[Option<Place>; 32]) -> Option<usize>
+fn free_place(places: &[Option<Place>; 32]) -> Option<usize>
     ensures { result ≡ index_below 32 (free_place places.now) }
 {
     places.iter().position(|place| place.is_none())
