@@ -75,9 +75,11 @@ flat = fit_of (float 0 ∷ float 1 ∷ []) (float 1 ∷ float 1 ∷ []) 1 (float
 
 abbrev Wide : Type 0
 Wide =
-    (made (λ m. take 2 m.lengthscales) wide ≡ Ok (half ∷ float 2 ∷ []))
-    × (made (λ m. take 3 m.cholesky) wide ≡ Ok (word 0x3ff6a09e667f3bcd ∷ word 0x3f9aca5fe86f5be4 ∷ word 0x3ff69fa09f3a3f5b ∷ []))
-    × (made (λ m. take 4 m.x_train) wide ≡ Ok (float 0 ∷ float 0 ∷ float 1 ∷ float 4 ∷ []))
+    -- each array, and a 0 past its count
+    (made (λ m. take 3 m.lengthscales) wide ≡ Ok (half ∷ float 2 ∷ float 0 ∷ []))
+    × (made (λ m. take 4 m.cholesky) wide ≡ Ok (word 0x3ff6a09e667f3bcd ∷ word 0x3f9aca5fe86f5be4 ∷ word 0x3ff69fa09f3a3f5b ∷ float 0 ∷ []))
+    × (made (λ m. take 3 m.alpha) wide ≡ Ok (word 0xbfd70dccfa67ef48 ∷ word 0x3fd70dccfa67ef49 ∷ float 0 ∷ []))
+    × (made (λ m. take 5 m.x_train) wide ≡ Ok (float 0 ∷ float 0 ∷ float 1 ∷ float 4 ∷ float 0 ∷ []))
     × (made (λ m. m.n ∷ m.d ∷ []) wide ≡ Ok (2 ∷ 2 ∷ []))
     × (made (λ m. m.n ∷ m.d ∷ []) one ≡ Ok (1 ∷ 1 ∷ []))
     × (made (λ m. m.n ∷ m.d ∷ []) two ≡ Ok (2 ∷ 1 ∷ []))
@@ -88,7 +90,7 @@ Wide =
 
 wide_fit : Wide
 unfolding fit_of fit_domain fitted_of all_within every covariance_of similarity_of lengthscale_of variance_of mean_of value_deviation_of standard_of least_of_first cholesky_of columns_of rows_of less_of grown solve_of solution_of backward_of matern52_of scaled_root_of decay_of sum_over exp_of horner_of reduced_of scaled_of whole_of nearest_of round_of sqrt_of root_of isqrt of_bits to_bits round add sub mul div neg lt le is_nan of_int
-wide_fit = (refl, refl, refl, refl, refl, refl, refl, refl, refl)
+wide_fit = (refl, refl, refl, refl, refl, refl, refl, refl, refl, refl)
 
 -- the domain: rows, columns, counts that fit each other, and the limits 1e32 and 2^52, which are taken
 abbrev Domain : Type 0

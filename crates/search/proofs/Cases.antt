@@ -45,7 +45,7 @@ score_at fit x = made (λ m. to_bits binary64 (score_of m (x ∷ []))) fit
 abbrev Found : Type 0
 Found =
     -- the second of three candidates
-    (made (λ c. take 1 c.x) (searched two 3 0x9e3779b97f4a7c15) ≡ Ok (word 0x3fd93c3bae409b98 ∷ []))
+    (made (λ c. take 2 c.x) (searched two 3 0x9e3779b97f4a7c15) ≡ Ok (word 0x3fd93c3bae409b98 ∷ float 0 ∷ []))
     × (made (λ c. c.next) (searched two 3 0x9e3779b97f4a7c15) ≡ Ok 0x7b07ce91e5906136)
     -- a tie: the first of two
     × (made (λ c. take 1 c.x) (searched one 2 0x9e3779b97f4a7c13) ≡ Ok (word 0x3feb836ef5f11ff0 ∷ []))
@@ -54,7 +54,7 @@ Found =
     -- by the deviation there, and the best value, which is below 0
     × (score_at two (word 0x3fd93c3bae409b98) ≡ Ok 0x3fbdc6c2cda70d44)
     -- no candidate
-    × (made (λ c. take 1 c.x) (searched two 0 0x9e3779b97f4a7c15) ≡ Ok (half ∷ []))
+    × (made (λ c. take 2 c.x) (searched two 0 0x9e3779b97f4a7c15) ≡ Ok (half ∷ float 0 ∷ []))
     -- a zero word, and two columns for a model of one
     × (searched two 3 0 ≡ Err OutOfDomain)
     × (and_then two (λ m. optimize_acquisition_of m 2 3 0x9e3779b97f4a7c15) ≡ Err OutOfDomain)
