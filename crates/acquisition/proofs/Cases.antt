@@ -18,10 +18,12 @@ Points =
     × (norm_cdf_of (of_int binary64 (pos 1)) ≡ Ok (of_bits binary64 0x3feaec4bce1ad08e))
     × (norm_cdf_of (of_int binary64 (negsuc 0)) ≡ Ok (of_bits binary64 0x3fc44ed0c794bdc8))
     × (expected_improvement_of (of_bits binary64 0) (of_int binary64 (pos 1)) (of_int binary64 (pos 1)) ≡ Ok (of_bits binary64 0x3ff1554298d3cb2e))
+    -- a deviation of 2: the distribution and the density are taken at a half
+    × (expected_improvement_of (of_bits binary64 0) (of_int binary64 (pos 2)) (of_int binary64 (pos 1)) ≡ Ok (of_bits binary64 0x3ff6545973e930f6))
 
 points : Points
 unfolding norm_pdf_of polynomial_of upper_of norm_cdf_of expected_improvement_of exp_of horner_of reduced_of scaled_of whole_of nearest_of round_of of_bits to_bits round add sub mul div neg lt le is_nan of_int to_signed
-points = (refl, refl, refl, refl, refl, refl)
+points = (refl, refl, refl, refl, refl, refl, refl)
 
 -- at -8 and 8 by the formula, and at the next floats outside 0 and 1, as the Rust answers
 abbrev Ends : Type 0

@@ -1,4 +1,4 @@
--- "`expected_improvement` accepts every float and is never NaN." A statement, proved in proofs/Accepted.
+-- "`expected_improvement` accepts every float and is never NaN." A statement.
 use Rattle.std.specs.Prelude.{◌≡◌, false, Float, Ok}
 use Rattle.arith.specs.Bounds.{real, Sign}
 use Rattle.arith.specs.Outcome.{value_of}

@@ -1,4 +1,4 @@
--- "Positive part, Rust's max(0.0): v if v > 0, else +0, NaN included. Floors likewise; a least value keeps the earlier unless the later is less." Definitions only.
+-- "Positive part, Rust's `max(0.0)`: v if v > 0, else +0, NaN included. Floors likewise; a least value keeps the earlier unless the later is less." Definitions only.
 use Rattle.std.specs.Prelude.{ℕ, zero, suc, false, cond, List, length, from_bits, slice_index_or, Float}
 use Rattle.std.specs.Float.{nan, inf, binary64}
 use Rattle.std.specs.Float.Ieee.{lt}

@@ -36,7 +36,7 @@ unfoldable pub scaled_of : Float → Float → Float
 unfolding whole_of round_of reduced_of horner_of
 scaled_of x t = mul binary64 (horner_of 13 (reduced_of x (round_of t)) one) (fin false 1 (whole_of t))
 
--- "NaN gives NaN; below −708 gives +0; above 709 is 11. Else .."
+-- "NaN gives NaN; below −708 gives +0; above 709 is 11."
 unfoldable pub exp_of : Float → Result Float Refusal
 unfolding scaled_of
 exp_of x =

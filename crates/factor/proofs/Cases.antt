@@ -26,7 +26,8 @@ factor = float 2 ∷ float 1 ∷ float 2 ∷ []
 
 abbrev Factored : Type 0
 Factored =
-    (made (take 3) (cholesky_of matrix 2) ≡ Ok factor)
+    -- and a 0 past it
+    (made (take 4) (cholesky_of matrix 2) ≡ Ok (float 2 ∷ float 1 ∷ float 2 ∷ float 0 ∷ []))
     -- a pivot that is 0
     × (cholesky_of (float 0 ∷ []) 1 ≡ Err Pivot)
 
@@ -34,8 +35,8 @@ factored : Factored
 unfolding cholesky_of columns_of rows_of less_of grown every sqrt_of root_of isqrt of_bits of_int round sub mul div lt
 factored = (refl, refl)
 
--- the right-hand side 6 7 is the matrix times 1 1
-solved : made (take 2) (solve_of factor (float 6 ∷ float 7 ∷ []) 2) ≡ Ok (float 1 ∷ float 1 ∷ [])
+-- the right-hand side 6 7 is the matrix times 1 1; past the two unknowns there is a 0
+solved : made (take 3) (solve_of factor (float 6 ∷ float 7 ∷ []) 2) ≡ Ok (float 1 ∷ float 1 ∷ float 0 ∷ [])
 unfolding solve_of solution_of backward_of less_of grown of_bits of_int round sub mul div
 solved = refl
 

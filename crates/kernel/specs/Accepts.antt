@@ -1,4 +1,4 @@
--- exp is never out of its domain in the kernel: its argument is a NaN or not above 0. A statement, proved in proofs/Accepted.
+-- exp is never out of its domain in the kernel: its argument is a NaN or not above 0. A statement.
 use Rattle.std.specs.Prelude.{◌≡◌, List, length, Float, Ok}
 use Rattle.arith.specs.Outcome.{value_of}
 use Rattle.kernel.specs.Matern.{matern52_of}

@@ -1,4 +1,4 @@
--- "x = m × 2^e, 1 ≤ m < 2": what m and e of ln's definition are, said of their exact values. A statement, proved in proofs/LnSplit.
+-- "x = m × 2^e, 1 ≤ m < 2": what m and e of ln's definition are, said of their exact values. A statement.
 use Rattle.std.specs.Prelude.{◌≡◌, ◌*◌, false, T, ℤ, Float}
 use Rattle.std.specs.Float.{fin, binary64}
 use Rattle.std.specs.Float.Ieee.{up, down, fits, le, lt}

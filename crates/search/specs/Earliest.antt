@@ -1,4 +1,4 @@
--- The earliest maximum, over the generator's words alone: demand 3, "the earliest drawn for it whose expected improvement under that model is at least that of every other one drawn for it. With no candidates it is .. all 0.5." A statement, proved in proofs/Earliest.
+-- The earliest maximum, over the generator's words alone: demand 3, "the earliest drawn for it whose expected improvement under that model is at least that of every other one drawn for it. With no candidates it is .. all 0.5." A statement.
 use Rattle.std.specs.Prelude.{◌≡◌, List, ℕ, ◌+◌, ◌*◌, ◌<◌, T, get_or, replicate, Float}
 use Rattle.std.specs.Float.{binary64}
 use Rattle.std.specs.Float.Ieee.{lt, le, of_bits}
