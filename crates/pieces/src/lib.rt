@@ -3,7 +3,7 @@
 
 mod input;
 
-ghost use Rattle.std.specs.Prelude.{◌≡◌, ◌≤◌, length, IfSome};
+ghost use Rattle.std.specs.Prelude.{◌≡◌, ◌≤◌, length, drop, min, IfSome};
 ghost use Rattle.pieces.specs.Kept.{kept_of};
 
 use input::Input;
@@ -11,9 +11,11 @@ pub use input::Lines;
 use std::io::Read;
 
 // Reads once, and no more than `left` bytes: how many are put at the start of the buffer, 0 at the end of the input.
-// None where the read failed, which is told on standard error. What is read no contract can say.
+// None where the read failed, which is told on standard error. What is read no contract can say; what stands behind
+// the bytes that may be read stays.
 pub fn fill(rt: HostRuntime, buf: &mut [u8], left: u64) -> Option<usize>
-    ensures { IfSome result (λ n. (n ≤ length buf.old) × (n ≤ left)) }
+    ensures count { IfSome result (λ n. (n ≤ length buf.old) × (n ≤ left)) }
+    ensures rest { drop (min left (length buf.old)) buf.new ≡ drop (min left (length buf.old)) buf.old }
 {
     let end = left.min(buf.len() as u64) as usize;
     match rt.stdin().read(&mut buf[..end]) {
@@ -27,7 +29,7 @@ pub fn fill(rt: HostRuntime, buf: &mut [u8], left: u64) -> Option<usize>
 
 // Keeps the bytes from `used` up to `have`, at the front; other numbers than places in this order change nothing.
 #[tactic(auto, unfolding(crate::specs::Kept::kept_of))]
-pub fn keep(buf: &mut [u8], used: usize, have: usize)
+pub(crate) fn keep(buf: &mut [u8], used: usize, have: usize)
     ensures { buf.new ≡ kept_of used have buf.old }
 {
     if used <= have && have <= buf.len() {

@@ -1,7 +1,8 @@
 // One text from standard input, in pieces of any length, and on standard output its answers, or the points scored for
 // its new trials (`scores`).
-// What a call of the system reads or writes no contract can say: what is made of the bytes that are read, and which
-// bytes are written for them, is `propose_text`'s, and these functions are tested.
+// What a call of the system reads or writes no contract can say, and these functions are tested. What is made of the
+// bytes that are read, and which bytes are written for them, is `propose_text`'s; that each of them is handed to it
+// once, in order, the contracts of `run` say.
 #![tactic(auto)]
 
 mod run;

@@ -1,15 +1,19 @@
 // A text from standard input, piece by piece, and what is written for it.
-ghost use Rattle.std.specs.Prelude.{◌≡◌, ◌<◌, ◌≤◌, length, IfSome};
+ghost use Rattle.std.specs.Prelude.{◌≡◌, ◌-◌, ◌<◌, ◌≤◌, length, take, IfSome};
 ghost use Rattle.std.specs.ControlFlow.{continue_value};
+ghost use Rattle.propose_text.specs.Partial.{partial_of};
+ghost use Rattle.text_laws.specs.Pieces.{piece_of, taken_of};
 
 use crate::scores;
 use propose_text::Text;
 use std::ops::ControlFlow;
 use text_laws::{Event, Step};
 
-// What is written for a piece of a text; a failure to write ends the run.
+// What is written for a piece of a text; a failure to write ends the run. Else each byte of the piece is read once.
 pub(crate) trait Report {
-    fn piece(&mut self, rt: HostRuntime, text: &mut Text, piece: &[u8]) -> ControlFlow<()>;
+    fn piece(&mut self, rt: HostRuntime, text: &mut Text, piece: &[u8]) -> ControlFlow<()>
+        ensures { IfSome (continue_value result) (λ u.
+            partial_of text.new ≡ (piece_of (partial_of text.old) piece.now).text) };
 }
 
 // The answers, put into an array before they are written.
@@ -27,11 +31,13 @@ impl Answers {
 impl Report for Answers {
     // In parts of as many bytes as a text takes at once.
     fn piece(&mut self, rt: HostRuntime, text: &mut Text, piece: &[u8]) -> ControlFlow<()> {
-        for part in piece.chunks(960) {
-            let n = text.read_piece(part, &mut self.out);
-            if n > 0 {
-                crate::write(rt, &self.out[..n])?;
+        let mut used = 0;
+        while used < piece.len() {
+            let put = text.read_piece(&piece[used..], &mut self.out);
+            if put.len > 0 {
+                crate::write(rt, &self.out[..put.len])?;
             }
+            used += put.used;
         }
         ControlFlow::Continue(())
     }
@@ -42,6 +48,7 @@ impl Report for Answers {
 pub(crate) struct Points;
 
 impl Report for Points {
+    // Step after step.
     fn piece(&mut self, rt: HostRuntime, text: &mut Text, piece: &[u8]) -> ControlFlow<()> {
         let mut used = 0;
         while used < piece.len() {
@@ -55,7 +62,10 @@ impl Report for Points {
 // end. How many bytes are taken.
 fn write_points(rt: HostRuntime, text: &mut Text, piece: &[u8]) -> ControlFlow<(), usize>
     requires { 0 < length piece.now }
-    ensures { IfSome (continue_value result) (λ n. (1 ≤ n) × (n ≤ length piece.now)) }
+    ensures within { IfSome (continue_value result) (λ n. (1 ≤ n) × (n ≤ length piece.now)) }
+    ensures used { IfSome (continue_value result) (λ n. n ≡ (taken_of (partial_of text.old) piece.now).used) }
+    ensures text { IfSome (continue_value result) (λ n.
+        partial_of text.new ≡ (taken_of (partial_of text.old) piece.now).text) }
 {
     let before = text.sampler();
     let taken = text.take_line(piece);
@@ -103,9 +113,11 @@ impl<R: Report> Run<R> {
         }
     }
 
-    // One read, with what is written for it, before the next.
+    // One read, with what is written for it, before the next. Where more is to be read, each byte of it is read once.
     fn turn(&mut self) -> ControlFlow<()>
-        ensures { self.new.left ≤ self.old.left }
+        ensures left { self.new.left ≤ self.old.left }
+        ensures read { IfSome (continue_value result) (λ u. partial_of self.new.text ≡
+            (piece_of (partial_of self.old.text) (take (self.old.left - self.new.left) self.new.buffer)).text) }
     {
         match pieces::fill(self.rt, &mut self.buffer, self.left) {
             Some(0) => write_line(self.rt, &self.text.end())?,

@@ -106,6 +106,13 @@ piece-taken t (b ∷ p) = go (byte_of t b).step (piece-taken (byte_of t b).text 
     go (Some s) h = refl
     go None h = h
 
+-- the text after two parts is that after the whole
+pub piece-parts : (n : ℕ) (t : Partial) (p : List ℕ) → (piece_of (piece_of t (take n p)).text (drop n p)).text ≡ (piece_of t p).text
+unfolding piece_of
+piece-parts zero t p = refl
+piece-parts (suc n) t [] = refl
+piece-parts (suc n) t (b ∷ p) = piece-parts n (byte_of t b).text p
+
 -- ---- a piece read into an array
 
 module _ (t : Partial) (p : List ℕ) (used : ℕ) where

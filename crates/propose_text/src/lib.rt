@@ -5,4 +5,4 @@ mod pieces;
 mod steps;
 pub mod text;
 
-pub use text::{Taken, Text};
+pub use text::{Put, Taken, Text};

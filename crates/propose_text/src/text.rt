@@ -31,13 +31,13 @@ pub struct Taken {
 
 // How many bytes of a piece are read, and how many are put into an array for them.
 #[derive(Clone, Copy)]
-struct Put {
-    used: usize,
-    put: usize,
+pub struct Put {
+    pub used: usize,
+    pub len: usize,
 }
 
 impl Text {
-    ghost use Rattle.std.specs.Prelude.{◌≡◌, ◌+◌, ◌<◌, length, take};
+    ghost use Rattle.std.specs.Prelude.{◌≡◌, ◌+◌, ◌<◌, length, take, min};
     ghost use Rattle.std.proofs.Math.Seq.{paste};
     ghost use Rattle.propose_text.specs.Partial.{partial_of, told_of, taken_in, written_next, put_first};
     ghost use Rattle.refusal.specs.declared.Refusal.{Refusal};
@@ -146,20 +146,20 @@ impl Text {
         requires { at + 68 ≤ 65280 }
         ensures text { partial_of self.new ≡ (taken_of (partial_of self.old) piece.now).text }
         ensures used { result.used ≡ (taken_of (partial_of self.old) piece.now).used }
-        ensures count { result.put ≡ length (written_next self.old piece.now) }
-        ensures few { result.put ≤ 68 }
+        ensures count { result.len ≡ length (written_next self.old piece.now) }
+        ensures few { result.len ≤ 68 }
         ensures part { result.used ≤ length piece.now }
         ensures some { 0 < length piece.now → 1 ≤ result.used }
-        ensures bytes { out.new ≡ paste out.old at (written_next self.old piece.now) result.put }
+        ensures bytes { out.new ≡ paste out.old at (written_next self.old piece.now) result.len }
     {
         let taken = self.take_line(piece);
-        let put = match &taken.step {
+        let len = match &taken.step {
             Some(step) => pieces::put(step, out, at),
             None => 0,
         };
         Put {
             used: taken.used,
-            put,
+            len,
         }
     }
 
@@ -176,20 +176,23 @@ impl Text {
         while used < piece.len() {
             let more = self.read_step(&piece[used..], out, len);
             used += more.used;
-            len += more.put;
+            len += more.len;
         }
         len
     }
 
-    // Reads a piece, of which it takes 960 bytes at most, and puts what is written for it into the array. How many
-    // bytes that is: each byte that is read writes at most 68.
-    pub fn read_piece(&mut self, piece: &[u8], out: &mut [u8; 65280]) -> usize
+    // Reads a piece, of which it takes 960 bytes at most, and puts what is written for them into the array: each byte
+    // that is read writes at most 68.
+    pub fn read_piece(&mut self, piece: &[u8], out: &mut [u8; 65280]) -> Put
+        ensures used { result.used ≡ min (length piece.now) 960 }
         ensures text { partial_of self.new ≡ (piece_of (partial_of self.old) (take 960 piece.now)).text }
-        ensures count { result ≡ length (piece_of (partial_of self.old) (take 960 piece.now)).written }
-        ensures room { result ≤ 65280 }
+        ensures count { result.len ≡ length (piece_of (partial_of self.old) (take 960 piece.now)).written }
+        ensures room { result.len ≤ 65280 }
         ensures bytes { out.new ≡ put_first (piece_of (partial_of self.old) (take 960 piece.now)).written out.old }
     {
-        self.read_steps(&piece[..piece.len().min(960)], out)
+        let used = piece.len().min(960);
+        let len = self.read_steps(&piece[..used], out);
+        Put { used, len }
     }
 
     // The end of the input.

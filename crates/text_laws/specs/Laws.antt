@@ -1,4 +1,4 @@
--- What is promised of every text. Statements only, proved in proofs/.
+-- What is promised of every text. Statements only.
 use Rattle.std.specs.Prelude.{ℕ, ◌<◌, ◌≡◌, false, List, [], ◌++◌, length}
 use Rattle.refusal.specs.declared.Refusal.{Refusal}
 use Rattle.settings.specs.Settings.{settings_ok}

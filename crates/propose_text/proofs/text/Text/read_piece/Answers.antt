@@ -8,10 +8,11 @@ use Rattle.propose_text.proofs.text.Text.read_piece.Goals as goal
 pub returns : goal.returns
 returns c =
     let t = partial_of c.args.self.now in
-    let e : take c.min.result c.args.piece.now ≡ take 960 c.args.piece.now = take-min c.args.piece.now 960 c.min.result c.min.ensures in
+    let e : take c.min-used.result c.args.piece.now ≡ take 960 c.args.piece.now = take-min c.args.piece.now 960 c.min-used.result c.min-used.ensures in
     record {
-      text = c.read_steps.ensures.text ∙ ap (λ (s : List ℕ). (piece_of t s).text) e;
-      count = c.read_steps.ensures.count ∙ ap (λ (s : List ℕ). length (piece_of t s).written) e;
-      room = c.read_steps.ensures.room;
-      bytes = c.read_steps.ensures.bytes ∙ ap (λ (s : List ℕ). put_first (piece_of t s).written c.args.out.now) e;
+      used = c.min-used.ensures;
+      text = c.read_steps-len.ensures.text ∙ ap (λ (s : List ℕ). (piece_of t s).text) e;
+      count = c.read_steps-len.ensures.count ∙ ap (λ (s : List ℕ). length (piece_of t s).written) e;
+      room = c.read_steps-len.ensures.room;
+      bytes = c.read_steps-len.ensures.bytes ∙ ap (λ (s : List ℕ). put_first (piece_of t s).written c.args.out.now) e;
     }
