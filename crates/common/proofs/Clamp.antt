@@ -1,12 +1,12 @@
--- A value that is held to the ends of a well-formed distribution lies between them, and obeys the Taken rule. The grid of a float gives a number, never a NaN: its count of steps is finite.
+-- A number held to ends in order lies between them. The grid of a float gives a number, never a NaN: its count of steps is finite. Assumes nothing.
 use mathlib.Core.Logic.{inl, inr}
-use Prim.Native.Nat.{ℕ, ◌^◌, ◌<◌, ◌*◌}
+use Prim.Native.Nat.{ℕ, ◌<◌, ◌*◌}
 use native.Mathlib.Nat.{le_refl, mul-pos}
-use mathlib.Core.Bool.{Bool, false, not, ◌&&◌, ◌||◌}
+use mathlib.Core.Bool.{Bool, false, ◌&&◌}
 use lib.Dec.{T, lit<}
-use lib.IntN.{ℤ, pos, negsuc, neg_ℤ}
+use lib.IntN.{ℤ, pos, negsuc}
 use lib.Signed.{le_z, lt_z, lt_z_no}
-use lib.Ieee.{Float, nan, inf, fin, binary64, up, down, unlike, round, add, sub, mul, div, neg, lt, le, is_nan}
+use lib.Ieee.{Float, nan, inf, fin, binary64, up, down, unlike, round, add, sub, mul, div, lt, le, is_nan}
 use lib.Ieee.Bits.{is_true, is_false}
 use lib.Ieee.Fits.{down_pos, and_i}
 use lib.Ieee.Order.{round_mono}
@@ -16,18 +16,13 @@ use Rattle.arith.specs.Bounds.{real, abs, Within, Between}
 use Rattle.arith.specs.Rounding.{round_of}
 use Rattle.arith.proofs.Tests.{either}
 use Rattle.arith.proofs.Order as order
-use Rattle.arith.proofs.Within.{abs-round, abs-real, sub_in, div-in, widen, within, within-finite, upper, lower, le-abs}
+use Rattle.arith.proofs.Within.{abs-round, abs-real, sub_in, div-in, within-finite, upper, le-abs}
 use Rattle.arith.proofs.Mono.{add-rounded}
-use Rattle.distribution.specs.Numbers.{FloatDistribution, IntDistribution}
-use Rattle.distribution.specs.declared.Distribution.{Distribution}
-use Rattle.distribution.specs.declared.ParamValue.{ParamValue}
-use Rattle.distribution.specs.Shape.{power, within_z, float_shape, int_shape}
-use Rattle.distribution.specs.Shape as shape
-use Rattle.distribution.specs.Taken.{taken_of}
-use Rattle.distribution.proofs.Facts.{FloatRules, FloatStepRules, float-rules, int-rules, asking, by-step}
+use Rattle.distribution.specs.Numbers.{FloatDistribution}
+use Rattle.distribution.specs.Shape.{power, float_shape}
+use Rattle.distribution.proofs.Facts.{FloatRules, FloatStepRules, float-rules, by-step}
 use Rattle.distribution.proofs.Whole.{le_z-refl}
 use Rattle.common.specs.Grid.{raised_to, clamp_of, float_grid}
-use Rattle.encoding.proofs.EndLaws.{le_z-trans}
 use Rattle.common.proofs.Domain.{round-within}
 
 -- ---- the clamps
@@ -62,7 +57,7 @@ clamp-whole low high z h =
 round-real : (s : Bool) (n d : ℕ) → 0 < d → real (round binary64 s n d)
 round-real s n d D = abs-real (round binary64 s n d) (rw (abs-round binary64 s n d) (order.le-real (round binary64 false n d) (round binary64 false n d) (round_mono binary64 n d n d D D (le_refl (n * d)))).0)
 
-mul-real : (x y : Float) → T (finite x) → T (finite y) → real (mul binary64 x y)
+pub mul-real : (x y : Float) → T (finite x) → T (finite y) → real (mul binary64 x y)
 unfolding mul
 mul-real (fin s m e) (fin t n d) F G = round-real (unlike s t) (m * up e * (n * up d)) (down e * down d) (mul-pos (down_pos e) (down_pos d))
 mul-real nan y F G = elim F [ ]
@@ -70,7 +65,7 @@ mul-real (inf _) y F G = elim F [ ]
 mul-real (fin s m e) nan F G = elim G [ ]
 mul-real (fin s m e) (inf _) F G = elim G [ ]
 
-add-real : (x y : Float) → T (finite x) → real y → real (add binary64 x y)
+pub add-real : (x y : Float) → T (finite x) → real y → real (add binary64 x y)
 unfolding is_nan
 add-real x nan F p = absurd p
 add-real (fin s m e) (inf t) F p = unfold add in tt
@@ -97,28 +92,3 @@ float-grid-real d v t w = by-step real _ d.step v (λ step e. stepped step (r.st
         let a : Within (power (pos 58)) x = sub_in binary64 (power (pos 57)) (power (pos 52)) (power (pos 58)) v d.low (unfold add le in tt) w r.low in
         let b : Within (power (pos 110)) q = div-in binary64 (power (pos 58)) (power (negsuc 51)) (power (pos 110)) x step (unfold div le in tt) (step-size d.low d.high step g) a in
         add-real d.low (mul binary64 (round_of q) step) (within-finite (power (pos 52)) d.low tt r.low) (mul-real (round_of q) step (within-finite (power (pos 110)) (round_of q) tt (round-within 110 (lit< tt) q b)) g.finite)
-
--- ---- the Taken rule
-
-pub take-float : (d : FloatDistribution) (v : Float) → Within (power (pos 53)) v → (T d.log_scale → T (le (power (negsuc 52)) v)) → T (taken_of (Distribution.Float d) (ParamValue.Float v))
-unfolding taken_of
-take-float d v w l =
-    and_i (shape.within (power (pos 53)) v) (not d.log_scale || le (power (negsuc 52)) v)
-    (and_i (le (neg (power (pos 53))) v) (le v (power (pos 53))) (lower (power (pos 53)) v w) (upper (power (pos 53)) v w)) (asking d.log_scale (le (power (negsuc 52)) v) l)
-
--- a float from low to high
-pub float-inside : (d : FloatDistribution) (v : Float) → T (float_shape d) → Between d.low d.high v → T (taken_of (Distribution.Float d) (ParamValue.Float v))
-float-inside d v t b =
-    let r = float-rules d t in
-    let w : Within (power (pos 52)) v = within (power (pos 52)) v (order.le_trans v d.high (power (pos 52)) b.1 (upper (power (pos 52)) d.high r.high)) (order.le_trans (neg (power (pos 52))) d.low v (lower (power (pos 52)) d.low r.low) b.0) in
-    take-float d v (widen (power (pos 52)) (power (pos 53)) v (unfold le in tt) w)
-    (λ l. order.le_trans (power (negsuc 52)) (power (negsuc 51)) v (unfold le in tt) (order.le_trans (power (negsuc 51)) d.low v (r.log l) b.0))
-
--- an int from low to high
-pub int-inside : (d : IntDistribution) (z : ℤ) → T (int_shape d) → T (le_z d.low z) → T (le_z z d.high) → T (taken_of (Distribution.Int d) (ParamValue.Int z))
-unfolding taken_of
-int-inside d z t l h =
-    let r = int-rules d t in
-    and_i (within_z (pos (2 ^ 52)) z) (not d.log_scale || le_z (pos 1) z)
-    (and_i (le_z (neg_ℤ (pos (2 ^ 52))) z) (le_z z (pos (2 ^ 52))) (le_z-trans (neg_ℤ (pos (2 ^ 52))) d.low z r.low.least l) (le_z-trans z d.high (pos (2 ^ 52)) h r.high.most))
-    (asking d.log_scale (le_z (pos 1) z) (λ k. le_z-trans (pos 1) d.low z (r.log k) l))

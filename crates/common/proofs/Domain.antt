@@ -213,7 +213,7 @@ inside-within true lo hi x r i = beyond (limit true) (accepted true) lo hi x (un
 inside-within false lo hi x r i = beyond (limit false) (accepted false) lo hi x (unfold of_int add le in tt) r.low r.high i
 
 -- from a to b, which are from -c to c
-pub positive-within : (a b c v : Float) → T (le (neg c) a && le b c) → Between a b v → Within c v
+positive-within : (a b c v : Float) → T (le (neg c) a && le b c) → Between a b v → Within c v
 positive-within a b c v t r = within c v (order.le_trans v b c r.1 (and_r (le (neg c) a) (le b c) t)) (order.le_trans (neg c) a v (and_l (le (neg c) a) (le b c) t) r.0)
 
 unscaled-within : (log : Bool) (x v : Float) → Within (accepted log) x → unscale_of log x ≡ Ok v → Within (power (pos 57)) v
@@ -244,13 +244,12 @@ linear-range lo hi u r b =
     let i = and_i (le (sub binary64 lo one) x) (le x (add binary64 hi one)) k.0 k.1 in
     (i, beyond (limit false) (power (pos 53)) lo hi x (unfold of_int add le in tt) r.low r.high i)
 
--- decoding accepts it, and its value obeys the Taken rule
+-- decoding accepts it, and its value is at most 2 ^ 53 in size
 pub record Unscaled (log : Bool) (lo hi u : Float) : Type 0 where
   pub accepted : T (inside (Ok (Some (lo, hi))) (range_of lo hi u))
   pub value : Float
   pub is : unscale_of log (range_of lo hi u) ≡ Ok value
   pub size : Within (power (pos 53)) value
-  pub least : T log → T (le (power (negsuc 52)) value)
 
 pub unscaled : (log : Bool) (lo hi u : Float) → EndRules log lo hi → Between (of_bits binary64 0) one u → Unscaled log lo hi u
 unscaled true lo hi u r b =
@@ -262,11 +261,10 @@ unscaled true lo hi u r b =
       value = v.0;
       is = v.1;
       size = positive-within (power (negsuc 52)) (power (pos 53)) (power (pos 53)) v.0 (unfold neg le in tt) v.2;
-      least = λ _. v.2.0;
     }
 unscaled false lo hi u r b =
     let k = linear-range lo hi u r b in
-    record { accepted = k.0; value = range_of lo hi u; is = refl; size = k.1; least = λ l. absurd l }
+    record { accepted = k.0; value = range_of lo hi u; is = refl; size = k.1 }
 
 -- ---- a draw on log scale
 
@@ -274,13 +272,12 @@ pub record LogDrawn (d : Distribution) (u : Float) : Type 0 where
   pub value : Float
   pub is : log_range (bounds_of d) u ≡ Ok value
   pub size : Within (power (pos 53)) value
-  pub least : T (le (power (negsuc 52)) value)
 
 pub log-drawn : (d : Distribution) → T (continuous_of d) → FloatsFit d → T (shape_of d) → on_log_scale d ≡ true → (u : Float) → Between (of_bits binary64 0) one u → LogDrawn d u
 log-drawn d c f t l u b =
     let r = bounds d c f t in
     let v = unscaled true r.lo r.hi u (subst (λ (g : Bool). EndRules g r.lo r.hi) l r.rules) b in
-    record { value = v.value; is = ap (λ (g : InternalBounds). log_range g u) r.is ∙ v.is; size = v.size; least = v.least tt }
+    record { value = v.value; is = ap (λ (g : InternalBounds). log_range g u) r.is ∙ v.is; size = v.size }
 
 pub log-steps : (d : IntDistribution) (u : Float) → T (int_shape d) → d.log_scale ≡ true → Between (of_bits binary64 0) one u → OutcomeFits d (log_range (bounds_of (Distribution.Int d)) u)
 log-steps d u t l b =

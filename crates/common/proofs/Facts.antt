@@ -1,4 +1,4 @@
--- What the codings give, over their definitions. A random value is accepted, takes one word and obeys the Taken rule; a unit float scaled to the ends decodes to a value from low to high; a taken value is encoded, and its normalised form is at most 1e32 in size.
+-- What the codings give, over their definitions. A random value is accepted, takes one word and is in range; a unit float scaled to the ends decodes to a value in range; a taken value is encoded, and its normalised form is at most 1e32 in size.
 use Rattle.std.specs.Prelude.{Result, Ok, Some}
 use Rattle.refusal.specs.declared.Refusal.{Refusal}
 use Rattle.arith.specs.Outcome.{made}
@@ -16,9 +16,9 @@ use lib.Ieee.Bits.{is_true}
 use lib.Ieee.Fits.{and_i}
 use lib.Ieee.Scale.{finite}
 use Rattle.arith.proofs.Tests.{taken as holds, untaken, by-test}
-use Rattle.arith.specs.Bounds.{abs, Within, Between}
+use Rattle.arith.specs.Bounds.{real, abs, Within, Between}
 use Rattle.arith.proofs.Order as order
-use Rattle.arith.proofs.Within.{bound, sub_in, div-in, widen, within-finite}
+use Rattle.arith.proofs.Within.{bound, sub_in, div-in, widen, within-finite, upper}
 use Rattle.logarithm.proofs.LnLaws.{ln-taken}
 use Rattle.rng_util.specs.Generator.{next_of}
 use Rattle.rng_util.specs.Draws.{range_ok, unit_of, whole_of, read_by, word_draw_of, unit_draw_of, whole_draw_of}
@@ -29,50 +29,37 @@ use Rattle.distribution.specs.declared.CategoricalDistribution.{CategoricalDistr
 use Rattle.distribution.specs.declared.Distribution.{Distribution}
 use Rattle.distribution.specs.declared.ParamValue.{ParamValue}
 use Rattle.distribution.specs.Shape.{power, float_shape, int_shape, shape_of, continuous_of}
+use Rattle.distribution.specs.Range.{in_range}
 use Rattle.distribution.specs.Taken.{taken_of}
 use Rattle.distribution.proofs.Facts.{float-rules, int-rules, categorical-rules, float-taken, int-taken, by-step}
 use Rattle.encoding.specs.Bounds.{scale_of, bounds_of}
 use Rattle.common.specs.Decode.{one, inside, float_of, int_of, decoded_of, from_internal_of}
 use Rattle.encoding.specs.Encode.{to_internal_of}
 use Rattle.common.specs.Grid.{clamp_of, float_grid, int_grid}
-use Rattle.common.specs.Random.{drawing, range_of, log_range, log_float, log_float_random, stepped_float_random, linear_float_random, float_random, log_int_random, stepped_int_random, linear_int_random, int_random, categorical_random, random_of, sample_random_of}
+use Rattle.common.specs.Random.{drawing, range_of, log_range, log_float_random, stepped_float_random, linear_float_random, unclamped_random, float_random, log_int_random, stepped_int_random, linear_int_random, int_random, categorical_random, random_of, sample_random_of}
 use Rattle.encoding.proofs.EndLaws.{FloatFits, FloatsFit, on_log_scale, limit, EndRules, Scalable, scaled, looser, whole-scalable, end-rules, has-ends}
 use Rattle.common.proofs.Domain.{linear-range, unscaled, unit-between, log-drawn}
-use Rattle.common.proofs.Clamp.{clamp-between, clamp-whole, float-grid-real, take-float, float-inside, int-inside}
+use Rattle.common.proofs.Clamp.{clamp-between, clamp-whole, float-grid-real}
 use Rattle.common.proofs.Steps.{in-range, up_to}
 use Rattle.common.proofs.FloatSteps.{float-steps}
 
--- ---- where a value lies
-
--- a float and an int from low to high, a choice below the count
-abbrev pub Inside : Distribution → ParamValue → Type 0
-Inside (Distribution.Float d) (ParamValue.Float v) = Between d.low d.high v
-Inside (Distribution.Float d) (ParamValue.Int z) = ⊥
-Inside (Distribution.Float d) (ParamValue.Categorical i) = ⊥
-Inside (Distribution.Int d) (ParamValue.Float v) = ⊥
-Inside (Distribution.Int d) (ParamValue.Int z) = T (le_z d.low z) × T (le_z z d.high)
-Inside (Distribution.Int d) (ParamValue.Categorical i) = ⊥
-Inside (Distribution.Categorical d) (ParamValue.Float v) = ⊥
-Inside (Distribution.Categorical d) (ParamValue.Int z) = ⊥
-Inside (Distribution.Categorical d) (ParamValue.Categorical i) = i < d.n_choices
-
--- the same of an int and a choice; a float that is drawn may lie outside
-abbrev pub Ranged : Distribution → ParamValue → Type 0
-Ranged (Distribution.Float d) v = Unit
-Ranged (Distribution.Int d) v = Inside (Distribution.Int d) v
-Ranged (Distribution.Categorical d) v = Inside (Distribution.Categorical d) v
-
 -- ---- a unit float scaled to the ends, and decoded
 
--- the grid and the clamp of a float
-clamped : (d : FloatDistribution) (v : Float) → T (float_shape d) → Within (power (pos 53)) v → Between d.low d.high (clamp_of lt d.low d.high (float_grid d v))
-clamped d v t w = clamp-between d.low d.high (float_grid d v) (float-grid-real d v t (widen (power (pos 53)) (power (pos 57)) v (unfold le in tt) w)) (float-rules d t).order
+-- a number clamped is from low to high
+clamped : (d : FloatDistribution) (v : Float) → T (float_shape d) → real v → T (in_range (Distribution.Float d) (ParamValue.Float (clamp_of lt d.low d.high v)))
+clamped d v t r = let b = clamp-between d.low d.high v r (float-rules d t).order in and_i (le d.low (clamp_of lt d.low d.high v)) (le (clamp_of lt d.low d.high v) d.high) b.0 b.1
+
+clamped-whole : (d : IntDistribution) (z : ℤ) → T (int_shape d) → T (in_range (Distribution.Int d) (ParamValue.Int (clamp_of lt_z d.low d.high z)))
+clamped-whole d z t = let b = clamp-whole d.low d.high z (int-rules d t).order in and_i (le_z d.low (clamp_of lt_z d.low d.high z)) (le_z (clamp_of lt_z d.low d.high z) d.high) b.0 b.1
+
+-- the grid of a float gives a number
+on-grid : (d : FloatDistribution) (v : Float) → T (float_shape d) → Within (power (pos 53)) v → real (float_grid d v)
+on-grid d v t w = float-grid-real d v t (widen (power (pos 53)) (power (pos 57)) v (unfold le in tt) w)
 
 pub record Decoded (x : Float) (d : Distribution) : Type 0 where
   pub value : ParamValue
   pub is : from_internal_of x d ≡ Ok value
-  pub taken : T (taken_of d value)
-  pub range : Inside d value
+  pub range : T (in_range d value)
 
 from-internal : (x : Float) (d : Distribution) (lo hi : Float) → bounds_of d ≡ Ok (Some (lo, hi)) → T (inside (Ok (Some (lo, hi))) x) → from_internal_of x d ≡ decoded_of x d
 unfolding from_internal_of
@@ -81,53 +68,33 @@ from-internal x d lo hi e i = rw (e, is_true (inside (Ok (Some (lo, hi))) x) i)
 pub decode-accepted : (d : Distribution) → FloatsFit d → T (shape_of d) → (lo hi : Float) → bounds_of d ≡ Ok (Some (lo, hi)) → (u : Float) → Between (of_bits binary64 0) one u → Decoded (range_of lo hi u) d
 decode-accepted (Distribution.Float d) f t lo hi e u b =
     let s = unscaled d.log_scale lo hi u (end-rules (Distribution.Float d) f t lo hi e) b in
-    let c = clamped d s.value (unfold shape_of in t) s.size in
     record {
       value = ParamValue.Float (clamp_of lt d.low d.high (float_grid d s.value));
       is = from-internal (range_of lo hi u) (Distribution.Float d) lo hi e s.accepted ∙ (unfold decoded_of in ap (made (float_of d)) s.is);
-      taken = float-inside d (clamp_of lt d.low d.high (float_grid d s.value)) (unfold shape_of in t) c;
-      range = c;
+      range = clamped d (float_grid d s.value) (unfold shape_of in t) (on-grid d s.value (unfold shape_of in t) s.size);
     }
 decode-accepted (Distribution.Int d) f t lo hi e u b =
     let s = unscaled d.log_scale lo hi u (end-rules (Distribution.Int d) f t lo hi e) b in
-    let z = clamp_of lt_z d.low d.high (int_grid d s.value) in
-    let c = clamp-whole d.low d.high (int_grid d s.value) (int-rules d (unfold shape_of in t)).order in
     record {
-      value = ParamValue.Int z;
+      value = ParamValue.Int (clamp_of lt_z d.low d.high (int_grid d s.value));
       is = from-internal (range_of lo hi u) (Distribution.Int d) lo hi e s.accepted ∙ (unfold decoded_of in ap (made (int_of d)) s.is);
-      taken = int-inside d z (unfold shape_of in t) c.0 c.1;
-      range = c;
+      range = clamped-whole d (int_grid d s.value) (unfold shape_of in t);
     }
 decode-accepted (Distribution.Categorical d) f t lo hi e u b = absurd (has-ends (Distribution.Categorical d) t lo hi e)
 
 -- ---- a random value
-
--- r draws one word for a value that is taken
-pub record Drawn (w : ℕ) (d : Distribution) (r : Result (Draw ParamValue) Refusal) : Type 0 where
-  pub value : ParamValue
-  pub is : r ≡ Ok (record { value = value; drawn = 1; next = next_of w })
-  pub taken : T (taken_of d value)
-  pub range : Ranged d value
-
-module _ (w : ℕ) (h : Nonzero w) (d : Distribution) where
-  -- a value made of the unit float
-  unit-drawn : (f : Float → Result ParamValue Refusal) (v : ParamValue) → f (unit_of (next_of w)) ≡ Ok v → T (taken_of d v) → Ranged d v → Drawn w d (drawing f (unit_draw_of w))
-  unfolding word_draw_of unit_draw_of
-  unit-drawn f v e t r = record { value = v; is = rw (nonzero-test w h, e); taken = t; range = r }
-
-  -- a value that is read from a draw from a to b, and a number that is drawn there
-  whole-drawn : (a b : ℤ) (f : ℤ → ParamValue) → T (range_ok a b) → ((k : ℤ) → whole.Between a b k → T (taken_of d (f k)) × Ranged d (f k)) → Drawn w d (read_by f (whole_draw_of w a b))
-  unfolding word_draw_of whole_draw_of
-  whole-drawn a b f o g =
-      let k = whole_of a b (next_of w) in
-      let r = g k (whole.whole-between a b o (next_of w)) in
-      record { value = f k; is = rw (is_true (range_ok a b) o, nonzero-test w h); taken = r.0; range = r.1 }
 
 -- j steps of n from low, where they are at most high - low
 steps-between : (low high : ℤ) (o : T (range_ok low high)) (n j : ℕ) → j * n ≤ (whole.difference low high o).size → whole.Between low high (low +ℤ pos j *ℤ pos n)
 steps-between low high o n j h =
     subst (whole.Between low high) (whole.whole_is low high o (j * n) ∙ ap (λ (r : ℕ). low +ℤ pos r) (mod-eq_of_lt (let g : j * n < (whole.difference low high o).size + 1 = omega arith in g)))
     (whole.whole-between low high o (j * n))
+
+-- r draws one word for a value of which P holds
+pub record Drawn {A : Type 0} (w : ℕ) (P : A → Type 0) (r : Result (Draw A) Refusal) : Type 0 where
+  pub value : A
+  pub is : r ≡ Ok (record { value = value; drawn = 1; next = next_of w })
+  pub holds : P value
 
 module _ (w : ℕ) (h : Nonzero w) where
   abbrev u : Float
@@ -136,61 +103,79 @@ module _ (w : ℕ) (h : Nonzero w) where
   unit : Between (of_bits binary64 0) one u
   unit = unit-between w h
 
+  module _ {A : Type 0} (P : A → Type 0) where
+    -- a value made of the unit float
+    unit-drawn : (f : Float → Result A Refusal) (v : A) → f u ≡ Ok v → P v → Drawn w P (drawing f (unit_draw_of w))
+    unfolding word_draw_of unit_draw_of
+    unit-drawn f v e t = record { value = v; is = rw (nonzero-test w h, e); holds = t }
+
+    -- a value that is read from a draw from a to b, and a number that is drawn there
+    whole-drawn : (a b : ℤ) (f : ℤ → A) → T (range_ok a b) → ((k : ℤ) → whole.Between a b k → P (f k)) → Drawn w P (read_by f (whole_draw_of w a b))
+    unfolding word_draw_of whole_draw_of
+    whole-drawn a b f o g =
+        let k = whole_of a b (next_of w) in
+        record { value = f k; is = rw (is_true (range_ok a b) o, nonzero-test w h); holds = g k (whole.whole-between a b o (next_of w)) }
+
+    -- what is read from a value drawn
+    read-drawn : {B : Type 0} (Q : B → Type 0) (f : B → A) (r : Result (Draw B) Refusal) → Drawn w Q r → ((v : B) → Q v → P (f v)) → Drawn w P (read_by f r)
+    read-drawn Q f r d g = record { value = f d.value; is = rw d.is; holds = g d.value d.holds }
+
   -- ---- floats
   module _ (d : FloatDistribution) (f : FloatFits d) (t : T (float_shape d)) where
     abbrev D : Distribution
     D = Distribution.Float d
 
-    log-float : T d.log_scale → Drawn w D (log_float_random w d)
+    log-float : T d.log_scale → Drawn w real (log_float_random w d)
     unfolding log_float_random
     log-float l =
         let v = log-drawn D tt f (unfold shape_of in t) (is_true d.log_scale l) u unit in
-        unit-drawn w h D (λ u. made (log_float d) (log_range (bounds_of D) u)) (log_float d v.value) (rw v.is) (go v.value v.size v.least) tt
-      where
-        go : (v : Float) → Within (power (pos 53)) v → T (le (power (negsuc 52)) v) → T (taken_of D (log_float d v))
-        go v s g =
-            by-step (λ x. T (taken_of D x)) (λ _. float_of d v) d.step (ParamValue.Float v)
-            (λ _ _. float-inside d (clamp_of lt d.low d.high (float_grid d v)) t (clamped d v t s)) (λ _. take-float d v s (λ _. g))
+        unit-drawn real (λ u. made (float_grid d) (log_range (bounds_of D) u)) (float_grid d v.value) (rw v.is) (on-grid d v.value t v.size)
 
-    stepped-float : (step : Float) → d.step ≡ Some step → T (not d.log_scale) → Drawn w D (stepped_float_random w d.low d.high step)
+    stepped-float : (step : Float) → d.step ≡ Some step → Drawn w real (stepped_float_random w d.low d.high step)
     unfolding stepped_float_random
-    stepped-float step e l =
+    stepped-float step e =
         let n = float-steps d t step e in
         rw n.is
-        (whole-drawn w h D (pos 0) (pos n.number) (λ k. ParamValue.Float (add binary64 d.low (mul binary64 (of_int binary64 k) step))) (in-range (pos 0) (pos n.number) (omega arith) n.few (le→leb 0 n.number (omega arith)))
-        (λ k b. let j = up_to n.number k b in (rw j.is (take-float d _ (n.size j.number j.most) (λ p. absurd (T_not d.log_scale l p))), tt)))
+        (whole-drawn real (pos 0) (pos n.number) (λ k. add binary64 d.low (mul binary64 (of_int binary64 k) step)) (in-range (pos 0) (pos n.number) (omega arith) n.few (le→leb 0 n.number (omega arith)))
+        (λ k b. let j = up_to n.number k b in rw j.is (n.sums j.number j.most)))
 
-    linear-float : T (not d.log_scale) → Drawn w D (linear_float_random w d.low d.high)
+    linear-float : Drawn w real (linear_float_random w d.low d.high)
     unfolding linear_float_random word_draw_of unit_draw_of
-    linear-float l =
+    linear-float =
         let r = float-rules d t in
         let v = linear-range d.low d.high u (record { low = r.low; high = r.high; order = r.order; low_fits = f.low; high_fits = f.high }) unit in
-        record { value = ParamValue.Float (range_of d.low d.high u); is = rw (nonzero-test w h); taken = take-float d (range_of d.low d.high u) v.1 (λ p. absurd (T_not d.log_scale l p)); range = tt }
+        record { value = range_of d.low d.high u; is = rw (nonzero-test w h); holds = (order.le-real (range_of d.low d.high u) (power (pos 53)) (upper (power (pos 53)) (range_of d.low d.high u) v.1)).0 }
 
-    float-drawn : Drawn w D (float_random w d)
+    unclamped : Drawn w real (unclamped_random w d)
+    unfolding unclamped_random
+    unclamped = by-test (Drawn w real) d.log_scale _ _ (λ e. log-float (holds e)) (λ e. by-step (Drawn w real) _ d.step _ stepped-float (λ _. linear-float))
+
+    float-drawn : Drawn w (λ v. T (in_range D v)) (float_random w d)
     unfolding float_random
-    float-drawn = by-test (Drawn w (Distribution.Float d)) d.log_scale _ _ (λ e. log-float (holds e)) (λ e. by-step (Drawn w (Distribution.Float d)) _ d.step _ (λ step s. stepped-float step s (untaken e)) (λ _. linear-float (untaken e)))
+    float-drawn = read-drawn (λ v. T (in_range D v)) real _ _ unclamped (λ v r. clamped d v t r)
 
   -- ---- ints
   module _ (d : IntDistribution) (t : T (int_shape d)) where
     abbrev Z : Distribution
     Z = Distribution.Int d
 
+    abbrev InRange : ParamValue → Type 0
+    InRange v = T (in_range Z v)
+
     -- a number from low to high
-    held : (z : ℤ) → whole.Between d.low d.high z → T (taken_of Z (ParamValue.Int z)) × Ranged Z (ParamValue.Int z)
-    held z b = (int-inside d z t b.0 b.1, b)
+    held : (z : ℤ) → whole.Between d.low d.high z → InRange (ParamValue.Int z)
+    held z b = and_i (le_z d.low z) (le_z z d.high) b.0 b.1
 
     ok : T (range_ok d.low d.high)
     ok = let r = int-rules d t in in-range d.low d.high (let m = r.low.magnitude in omega arith) (let m = r.high.magnitude in omega arith) r.order
 
-    log-int : T d.log_scale → Drawn w Z (log_int_random w d)
+    log-int : T d.log_scale → Drawn w InRange (log_int_random w d)
     unfolding log_int_random
     log-int l =
         let v = log-drawn Z tt tt (unfold shape_of in t) (is_true d.log_scale l) u unit in
-        let b = held (clamp_of lt_z d.low d.high (int_grid d v.value)) (clamp-whole d.low d.high (int_grid d v.value) (int-rules d t).order) in
-        unit-drawn w h Z (λ u. made (int_of d) (log_range (bounds_of Z) u)) (int_of d v.value) (rw v.is) b.0 b.1
+        unit-drawn InRange (λ u. made (int_of d) (log_range (bounds_of Z) u)) (int_of d v.value) (rw v.is) (clamped-whole d (int_grid d v.value) t)
 
-    stepped-int : (step : ℤ) → d.step ≡ Some step → Drawn w Z (stepped_int_random w d.low d.high step)
+    stepped-int : (step : ℤ) → d.step ≡ Some step → Drawn w InRange (stepped_int_random w d.low d.high step)
     unfolding stepped_int_random
     stepped-int step e = go step ((int-rules d t).steps step e).1
       where
@@ -200,36 +185,36 @@ module _ (w : ℕ) (h : Nonzero w) where
         span_small : span ≤ 2 ^ 53
         span_small = let r = int-rules d t in let a = r.low.magnitude in let b = r.high.magnitude in omega (arith, (whole.difference d.low d.high ok).small)
 
-        go : (z : ℤ) → T (le_z (pos 1) z) → Drawn w Z (read_by (λ k. ParamValue.Int (d.low +ℤ k *ℤ z)) (whole_draw_of w (pos 0) (quot_z (d.high -ℤ d.low) z)))
+        go : (z : ℤ) → T (le_z (pos 1) z) → Drawn w InRange (read_by (λ k. ParamValue.Int (d.low +ℤ k *ℤ z)) (whole_draw_of w (pos 0) (quot_z (d.high -ℤ d.low) z)))
         go (negsuc n) l = absurd l
         go (pos n) l =
             rw (whole.difference d.low d.high ok).is
-            (whole-drawn w h Z (pos 0) (pos (span / n)) (λ k. ParamValue.Int (d.low +ℤ k *ℤ pos n)) (in-range (pos 0) (pos (span / n)) (omega arith) (le_trans (div-le_self span n) span_small) (le→leb 0 (span / n) (omega arith)))
+            (whole-drawn InRange (pos 0) (pos (span / n)) (λ k. ParamValue.Int (d.low +ℤ k *ℤ pos n)) (in-range (pos 0) (pos (span / n)) (omega arith) (le_trans (div-le_self span n) span_small) (le→leb 0 (span / n) (omega arith)))
             (λ k b. let j = up_to (span / n) k b in rw j.is (held (d.low +ℤ pos j.number *ℤ pos n) (steps-between d.low d.high ok n j.number (le_trans (mul-le-mul_right n j.most) (div-mul-le_self span n))))))
 
-    linear-int : Drawn w Z (linear_int_random w d.low d.high)
+    linear-int : Drawn w InRange (linear_int_random w d.low d.high)
     unfolding linear_int_random
-    linear-int = whole-drawn w h Z d.low d.high (λ k. ParamValue.Int k) ok held
+    linear-int = whole-drawn InRange d.low d.high (λ k. ParamValue.Int k) ok held
 
-    int-drawn : Drawn w Z (int_random w d)
+    int-drawn : Drawn w InRange (int_random w d)
     unfolding int_random
-    int-drawn = by-test (Drawn w (Distribution.Int d)) d.log_scale _ _ (λ e. log-int (holds e)) (λ e. by-step (Drawn w (Distribution.Int d)) _ d.step _ stepped-int (λ _. linear-int))
+    int-drawn = by-test (Drawn w InRange) d.log_scale _ _ (λ e. log-int (holds e)) (λ e. by-step (Drawn w InRange) _ d.step _ stepped-int (λ _. linear-int))
 
   -- ---- choices
   module _ (d : CategoricalDistribution) (t : T (shape_of (Distribution.Categorical d))) where
-    choice-drawn : Drawn w (Distribution.Categorical d) (categorical_random w d.n_choices)
+    choice-drawn : Drawn w (λ v. T (in_range (Distribution.Categorical d) v)) (categorical_random w d.n_choices)
     unfolding categorical_random
     choice-drawn =
         let n = d.n_choices in
         let r = categorical-rules d (unfold shape_of in t) in
-        whole-drawn w h (Distribution.Categorical d) (pos 0) (pos (n - 1)) (λ k. ParamValue.Categorical (nat_abs k)) (in-range (pos 0) (pos (n - 1)) (omega arith) (omega arith) (le→leb 0 (n - 1) (omega arith)))
-        (λ k b. let j = up_to (n - 1) k b in let l : j.number < n = omega (arith, j.most) in rw j.is (unfold taken_of in lt→ltb j.number n l, l))
+        whole-drawn (λ v. T (in_range (Distribution.Categorical d) v)) (pos 0) (pos (n - 1)) (λ k. ParamValue.Categorical (nat_abs k)) (in-range (pos 0) (pos (n - 1)) (omega arith) (omega arith) (le→leb 0 (n - 1) (omega arith)))
+        (λ k b. let j = up_to (n - 1) k b in let l : j.number < n = omega (arith, j.most) in rw j.is (lt→ltb j.number n l))
 
-pub random-accepted : (w : ℕ) (d : Distribution) → Nonzero w → FloatsFit d → T (shape_of d) → Drawn w d (sample_random_of w d)
+pub random-accepted : (w : ℕ) (d : Distribution) → Nonzero w → FloatsFit d → T (shape_of d) → Drawn w (λ v. T (in_range d v)) (sample_random_of w d)
 unfolding sample_random_of
-random-accepted w d h f t = by-test (Drawn w d) (shape_of d) _ _ (λ _. go d f t) (λ e. absurd (T_not (shape_of d) (untaken e) t))
+random-accepted w d h f t = by-test (Drawn w (λ v. T (in_range d v))) (shape_of d) _ _ (λ _. go d f t) (λ e. absurd (T_not (shape_of d) (untaken e) t))
   where
-    go : (d : Distribution) → FloatsFit d → T (shape_of d) → Drawn w d (random_of w d)
+    go : (d : Distribution) → FloatsFit d → T (shape_of d) → Drawn w (λ v. T (in_range d v)) (random_of w d)
     go (Distribution.Float d) f t = unfold random_of in float-drawn w h d f (unfold shape_of in t)
     go (Distribution.Int d) f t = unfold random_of in int-drawn w h d (unfold shape_of in t)
     go (Distribution.Categorical d) f t = unfold random_of in choice-drawn w h d t

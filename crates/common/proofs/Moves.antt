@@ -16,7 +16,7 @@ use Rattle.distribution.specs.Numbers.{FloatDistribution, IntDistribution}
 use Rattle.distribution.specs.declared.Distribution.{Distribution}
 use Rattle.distribution.specs.Shape.{shape_of}
 use Rattle.distribution.proofs.Facts.{by-step}
-use Rattle.common.specs.Random.{drawing, log_float_random, stepped_float_random, linear_float_random, float_random, log_int_random, stepped_int_random, linear_int_random, int_random, categorical_random, random_of, sample_random_of}
+use Rattle.common.specs.Random.{drawing, log_float_random, stepped_float_random, linear_float_random, unclamped_random, float_random, log_int_random, stepped_int_random, linear_int_random, int_random, categorical_random, random_of, sample_random_of}
 
 -- the words drawn are the generator's moves, at most one
 pub record Moved {A : Type 0} (w : ℕ) (r : Result (Draw A) Refusal) : Type 0 where
@@ -53,8 +53,8 @@ unfolding whole_draw_of
 whole w a b = by-test (Moved w) (range_ok a b) _ _ (λ _. read (whole_of a b) w _ (word w)) (λ _. refused w OutOfDomain)
 
 float : (w : ℕ) (d : FloatDistribution) → Moved w (float_random w d)
-unfolding float_random log_float_random stepped_float_random linear_float_random
-float w d = by-test (Moved w) d.log_scale _ _ (λ _. drawn _ w _ (unit w)) (λ _. by-step (Moved w) _ d.step _ (λ _ _. read _ w _ (whole w _ _)) (λ _. read _ w _ (unit w)))
+unfolding float_random unclamped_random log_float_random stepped_float_random linear_float_random
+float w d = read _ w _ (by-test (Moved w) d.log_scale _ _ (λ _. drawn _ w _ (unit w)) (λ _. by-step (Moved w) _ d.step _ (λ _ _. read _ w _ (whole w _ _)) (λ _. read _ w _ (unit w))))
 
 int : (w : ℕ) (d : IntDistribution) → Moved w (int_random w d)
 unfolding int_random log_int_random stepped_int_random linear_int_random

@@ -1,11 +1,12 @@
--- `sample_random` of common.rs: a random value for any distribution, one word each. It clamps neither an unstepped float nor a linear stepped one. Definitions only.
+-- `sample_random` of common.rs: a random value for any distribution, one word each. "Every random float is now clamped to
+-- low..high." Definitions only.
 use Rattle.refusal.specs.declared.Refusal.TheVariants.{OutOfDomain}
 use Rattle.refusal.specs.declared.Refusal.{Refusal}
 use Rattle.std.specs.Prelude.{ℕ, ◌-◌, cond, ℤ, pos, ◌+ℤ◌, ◌-ℤ◌, ◌*ℤ◌, nat_abs, Float, Result, Ok, Err, Some, None}
 use Rattle.std.specs.Option.{option_map_or}
 use Rattle.std.specs.Int.Signed.{quot_z}
 use Rattle.std.specs.Float.{binary64}
-use Rattle.std.specs.Float.Ieee.{add, sub, mul, div, of_int, to_signed}
+use Rattle.std.specs.Float.Ieee.{add, sub, mul, div, lt, of_int, to_signed}
 use Rattle.exponential.specs.Exp.{exp_of}
 use Rattle.arith.specs.Rounding.{floor_of}
 use Rattle.arith.specs.Outcome.{made, and_then}
@@ -16,7 +17,8 @@ use Rattle.distribution.specs.declared.Distribution.{Distribution}
 use Rattle.distribution.specs.declared.ParamValue.{ParamValue}
 use Rattle.distribution.specs.Shape.{shape_of}
 use Rattle.encoding.specs.Bounds.{InternalBounds, bounds_of}
-use Rattle.common.specs.Decode.{float_of, int_of}
+use Rattle.common.specs.Decode.{int_of}
+use Rattle.common.specs.Grid.{clamp_of, float_grid}
 
 -- what f answers of the value drawn; a refusal draws nothing
 abbrev pub drawing : {A B : Type 0} → (A → Result B Refusal) → Result (Draw A) Refusal → Result (Draw B) Refusal
@@ -32,28 +34,30 @@ log_range (Ok (Some (lo, hi))) u = exp_of (range_of lo hi u)
 log_range (Ok None) u = Err OutOfDomain
 log_range (Err r) u = Err r
 
--- a stepped float on log scale is clamped, an unstepped one is not
-abbrev pub log_float : FloatDistribution → Float → ParamValue
-log_float d v = option_map_or (λ step. float_of d v) d.step (ParamValue.Float v)
-
-unfoldable pub log_float_random : ℕ → FloatDistribution → Result (Draw ParamValue) Refusal
+unfoldable pub log_float_random : ℕ → FloatDistribution → Result (Draw Float) Refusal
 log_float_random w d =
-    drawing (λ u. made (log_float d) (log_range (bounds_of (Distribution.Float d)) u)) (unit_draw_of w)
+    drawing (λ u. made (float_grid d) (log_range (bounds_of (Distribution.Float d)) u)) (unit_draw_of w)
 
 -- `let n_steps = ((d.high - d.low) / step).floor() as i64; let k = rng.i64(0..=n_steps); d.low + (k as f64) * step`
-unfoldable pub stepped_float_random : ℕ → Float → Float → Float → Result (Draw ParamValue) Refusal
+unfoldable pub stepped_float_random : ℕ → Float → Float → Float → Result (Draw Float) Refusal
 stepped_float_random w low high step =
-    read_by (λ k. ParamValue.Float (add binary64 low (mul binary64 (of_int binary64 k) step)))
+    read_by (λ k. add binary64 low (mul binary64 (of_int binary64 k) step))
     (whole_draw_of w (pos 0) (to_signed 63 (floor_of (div binary64 (sub binary64 high low) step))))
 
-unfoldable pub linear_float_random : ℕ → Float → Float → Result (Draw ParamValue) Refusal
-linear_float_random w low high = read_by (λ u. ParamValue.Float (range_of low high u)) (unit_draw_of w)
+unfoldable pub linear_float_random : ℕ → Float → Float → Result (Draw Float) Refusal
+linear_float_random w low high = read_by (range_of low high) (unit_draw_of w)
 
-unfoldable pub float_random : ℕ → FloatDistribution → Result (Draw ParamValue) Refusal
+-- a float before the clamp
+unfoldable pub unclamped_random : ℕ → FloatDistribution → Result (Draw Float) Refusal
 unfolding log_float_random stepped_float_random linear_float_random
-float_random w d =
+unclamped_random w d =
     cond d.log_scale (log_float_random w d)
     (option_map_or (stepped_float_random w d.low d.high) d.step (linear_float_random w d.low d.high))
+
+-- the clamp of a decoding: an equal zero keeps its sign
+unfoldable pub float_random : ℕ → FloatDistribution → Result (Draw ParamValue) Refusal
+unfolding unclamped_random
+float_random w d = read_by (λ v. ParamValue.Float (clamp_of lt d.low d.high v)) (unclamped_random w d)
 
 unfoldable pub log_int_random : ℕ → IntDistribution → Result (Draw ParamValue) Refusal
 log_int_random w d = drawing (λ u. made (int_of d) (log_range (bounds_of (Distribution.Int d)) u)) (unit_draw_of w)

@@ -39,7 +39,7 @@ fn is_inside(b: InternalBounds, x: f64) -> bool
 
 // Kept: one for each kind, since each moves to its own grid: as one function it takes the grid as a closure, with a
 // clause of what that answers, for a line.
-pub(crate) fn float_decoded(d: FloatDistribution, v: f64) -> ParamValue
+fn float_decoded(d: FloatDistribution, v: f64) -> ParamValue
     ensures { result ≡ float_of d v }
 {
     ParamValue::Float(clamp(d.low, d.high, float_grid(d, v)))

@@ -1,10 +1,11 @@
 // A random value for any distribution, one word each.
 ghost use Rattle.std.specs.Prelude.{◌≡◌, T, ◌≤◌};
 ghost use Rattle.distribution.specs.Shape.{int_shape, shape_of};
-ghost use Rattle.common.specs.Random.{range_of, log_range, log_float, log_float_random, stepped_float_random, linear_float_random, float_random, log_int_random, stepped_int_random, linear_int_random, int_random, categorical_random, random_of, sample_random_of};
+ghost use Rattle.common.specs.Random.{range_of, log_range, log_float_random, stepped_float_random, linear_float_random, unclamped_random, float_random, log_int_random, stepped_int_random, linear_int_random, int_random, categorical_random, random_of, sample_random_of};
 ghost use Rattle.common.specs.RandomParts.{LogFits, Stepped};
 
-use crate::decode::{float_decoded, int_decoded};
+use crate::decode::int_decoded;
+use crate::grid::{clamp, float_grid};
 use distribution::{Distribution, FloatDistribution, IntDistribution, ParamValue};
 use encoding::{InternalBounds, internal_bounds};
 use refusal::Refusal;
@@ -28,48 +29,40 @@ fn log_range(b: InternalBounds, u: f64) -> Result<f64, Refusal>
     }
 }
 
-// A stepped float on log scale is clamped, an unstepped one is not.
-fn log_float(d: FloatDistribution, v: f64) -> ParamValue
-    ensures { result ≡ log_float d v }
-{
-    match d.step {
-        Some(_) => float_decoded(d, v),
-        None => ParamValue::Float(v),
-    }
-}
-
 #[tactic(auto, unfolding(crate::specs::Random::log_float_random))]
-fn log_float_random(w: u64, d: FloatDistribution) -> Result<Draw<ParamValue>, Refusal>
+fn log_float_random(w: u64, d: FloatDistribution) -> Result<Draw<f64>, Refusal>
     ensures { result ≡ log_float_random w d }
 {
     let r = rng_util::unit_float(w)?;
     let v = log_range(internal_bounds(Distribution::Float(d)), r.value)?;
-    Ok(r.with(log_float(d, v)))
+    Ok(r.with(float_grid(d, v)))
 }
 
 #[tactic(auto, unfolding(crate::specs::Random::stepped_float_random))]
-fn stepped_float_random(w: u64, low: f64, high: f64, step: f64) -> Result<Draw<ParamValue>, Refusal>
+fn stepped_float_random(w: u64, low: f64, high: f64, step: f64) -> Result<Draw<f64>, Refusal>
     ensures { result ≡ stepped_float_random w low high step }
 {
     let n = arith::int_of_float(arith::floor((high - low) / step));
     let r = rng_util::whole_number(w, 0, n)?;
-    let v = low + arith::float_of_int(r.value) * step;
-    Ok(r.with(ParamValue::Float(v)))
+    let k = r.value;
+    Ok(r.with(low + arith::float_of_int(k) * step))
 }
 
 #[tactic(auto, unfolding(crate::specs::Random::linear_float_random))]
-fn linear_float_random(w: u64, low: f64, high: f64) -> Result<Draw<ParamValue>, Refusal>
+fn linear_float_random(w: u64, low: f64, high: f64) -> Result<Draw<f64>, Refusal>
     ensures { result ≡ linear_float_random w low high }
 {
     let r = rng_util::unit_float(w)?;
-    Ok(r.with(ParamValue::Float(f64_range(low, high, r.value))))
+    let u = r.value;
+    Ok(r.with(f64_range(low, high, u)))
 }
 
+// A random float before the clamp.
 // Kept: beside int_random, as each of its three draws beside an int's: a float's scales a unit float and rounds, an
 // int's counts; one function for both takes three closures, with a clause each, for its two tests.
-#[tactic(auto, unfolding(crate::specs::Random::float_random))]
-fn float_random(w: u64, d: FloatDistribution) -> Result<Draw<ParamValue>, Refusal>
-    ensures { result ≡ float_random w d }
+#[tactic(auto, unfolding(crate::specs::Random::unclamped_random))]
+fn unclamped_random(w: u64, d: FloatDistribution) -> Result<Draw<f64>, Refusal>
+    ensures { result ≡ unclamped_random w d }
 {
     if d.log_scale {
         return log_float_random(w, d);
@@ -78,6 +71,16 @@ fn float_random(w: u64, d: FloatDistribution) -> Result<Draw<ParamValue>, Refusa
         Some(step) => stepped_float_random(w, d.low, d.high, step),
         None => linear_float_random(w, d.low, d.high),
     }
+}
+
+// A random float, clamped to low..high whichever way it was drawn.
+#[tactic(auto, unfolding(crate::specs::Random::float_random))]
+fn float_random(w: u64, d: FloatDistribution) -> Result<Draw<ParamValue>, Refusal>
+    ensures { result ≡ float_random w d }
+{
+    let r = unclamped_random(w, d)?;
+    let v = clamp(d.low, d.high, r.value);
+    Ok(r.with(ParamValue::Float(v)))
 }
 
 #[tactic(auto, unfolding(crate::specs::Random::log_int_random))]

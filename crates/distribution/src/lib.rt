@@ -1,4 +1,4 @@
-// Distributions and values: the shape test, equality, and the Taken rule. The names are the Rust's.
+// Distributions and values: the shape test, equality, the Taken rule, and the range. The names are the Rust's.
 #![tactic(auto)]
 
 ghost use Rattle.std.specs.Prelude.{◌≡◌};
@@ -7,10 +7,12 @@ ghost use Rattle.distribution.specs.Value.{kind_of, word_of};
 pub mod equality;
 mod limits;
 mod numbers;
+pub mod range;
 pub mod shape;
 pub mod taken;
 
 pub use equality::equal;
+pub use range::in_range;
 pub use shape::well_formed;
 pub use taken::{float_taken, taken_rule, taken_value, value_of_word};
 

@@ -3,10 +3,9 @@ use Rattle.refusal.specs.declared.Refusal.TheVariants.{OutOfDomain}
 use Rattle.std.specs.Prelude.{Ok, Err, Some, None}
 use mathlib.Core.Path.{◌≡◌, refl, sym, ap, ◌∙◌, subst}
 use Prim.Native.Nat.{ℕ, suc, ◌-◌, ◌^◌}
-use native.Mathlib.Nat.{le_trans}
 use native.Mathlib.Omega.{arith}
 use mathlib.Core.Bool.{Bool, true, false, cond}
-use lib.Dec.{T, leb→le, le→leb}
+use lib.Dec.{T}
 use lib.IntN.{ℤ, pos, negsuc}
 use lib.Signed.{le_z}
 use lib.Ieee.{Float, nan, binary64, add, mul, lt, le, neg, fits, of_bits, of_int}
@@ -24,6 +23,7 @@ use Rattle.distribution.specs.Numbers.{FloatDistribution, IntDistribution}
 use Rattle.distribution.specs.declared.CategoricalDistribution.{CategoricalDistribution}
 use Rattle.distribution.specs.declared.Distribution.{Distribution}
 use Rattle.distribution.specs.Shape.{power, shape_of, float_shape, int_shape, continuous_of}
+use Rattle.distribution.proofs.Whole.{le_z-trans}
 use Rattle.distribution.proofs.Facts.{Bounded, float-rules, int-rules}
 use Rattle.encoding.specs.Bounds.{InternalBounds, pair_of, scale_of, ends_of, bounds_of}
 
@@ -133,14 +133,6 @@ ends log x y s t h =
     }
 
 -- ---- a whole number as an end
-
-pub le_z-trans : (a b c : ℤ) → T (le_z a b) → T (le_z b c) → T (le_z a c)
-le_z-trans (pos a) (pos b) (pos c) h k = le→leb a c (le_trans (leb→le a b h) (leb→le b c k))
-le_z-trans (pos a) (pos b) (negsuc c) h k = k
-le_z-trans (pos a) (negsuc b) c h k = absurd h
-le_z-trans (negsuc a) b (pos c) h k = tt
-le_z-trans (negsuc a) (pos b) (negsuc c) h k = absurd k
-le_z-trans (negsuc a) (negsuc b) (negsuc c) h k = le→leb c a (le_trans (leb→le c b k) (leb→le b a h))
 
 pub whole-within : (z : ℤ) → Bounded (2 ^ 52) z → Within (power (pos 52)) (of_int binary64 z)
 whole-within z r =

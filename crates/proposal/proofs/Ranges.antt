@@ -25,12 +25,12 @@ use Rattle.rng_util.proofs.Unit as unit
 use Rattle.distribution.specs.declared.Distribution.{Distribution}
 use Rattle.distribution.specs.declared.ParamValue.{ParamValue}
 use Rattle.distribution_words.specs.RoundTrip.{Held}
+use Rattle.distribution.specs.Range.{in_range}
 use Rattle.distribution.specs.Shape.{shape_of, continuous_of}
-use Rattle.distribution.specs.Taken.{taken_of}
 use Rattle.distribution.proofs.Facts.{parts}
 use Rattle.common.specs.Decode.{one}
 use Rattle.common.specs.Random.{sample_random_of}
-use Rattle.common.proofs.Facts.{Inside, Ranged, decode-accepted, random-accepted}
+use Rattle.common.proofs.Facts.{decode-accepted, random-accepted}
 use Rattle.std.specs.Prelude.{Option, Some, None, Result, Ok, Err}
 use Rattle.refusal.specs.declared.Refusal.{Refusal}
 use Rattle.refusal.specs.declared.Refusal.TheVariants.{OutOfDomain, NoRows, Pivot}
@@ -134,17 +134,6 @@ point-coordinate t noise candidates w i h l = go (fit_for t noise) refl
     go (Ok m) e = searched m e
     go (Err r) e = drawn-coordinate (λ j. moved_of (suc j) w) t.d i (padded 20 (point_of t.d w)) refl (λ j. (moved-nonzero (suc j) w h).1) l
 
--- ---- a value in range: taken, and an int from low to high, a choice below the count
-
-pub record InRange (d : Distribution) (v : ParamValue) : Type 0 where
-  pub taken : T (taken_of d v)
-  pub range : Ranged d v
-
-inside-ranged : (d : Distribution) (v : ParamValue) → Inside d v → Ranged d v
-inside-ranged (Distribution.Float d) v h = tt
-inside-ranged (Distribution.Int d) v h = h
-inside-ranged (Distribution.Categorical d) v h = h
-
 -- a dimension as a program has it, with its distribution's bounds
 pub record Formed (d : DimensionInfo) : Type 0 where
   pub ok : T (dimension_ok d)
@@ -156,12 +145,12 @@ pub record Formed (d : DimensionInfo) : Type 0 where
 pub record DrawnIn (d : Distribution) (r : Result (Draw ParamValue) Refusal) : Type 0 where
   pub draw : Draw ParamValue
   pub is : r ≡ Ok draw
-  pub range : InRange d draw.value
+  pub range : T (in_range d draw.value)
 
 pub random-ranged : (w : ℕ) (d : Distribution) → Nonzero w → Held d → T (shape_of d) → DrawnIn d (sample_random_of w d)
 random-ranged w d h f t =
     let r = random-accepted w d h (floats-fit d f) t in
-    record { draw = record { value = r.value; drawn = 1; next = next_of w }; is = r.is; range = record { taken = r.taken; range = r.range } }
+    record { draw = record { value = r.value; drawn = 1; next = next_of w }; is = r.is; range = r.holds }
 
 step-ranged : (d : DimensionInfo) (u : Option Float) (w : ℕ) → Formed d → Nonzero w → ((x : Float) → u ≡ Some x → T (continuous_of d.distribution) → Coordinate x) → DrawnIn d.distribution (step_of d u w)
 unfolding step_of from_normalized_of
@@ -174,7 +163,7 @@ step-ranged d u w r h = go u
     decoded x c b =
         let q : Column d = record { ok = r.ok; continuous = c; held = r.held; lo-fits = r.lo-fits; hi-fits = r.hi-fits } in
         let v = decode-accepted d.distribution (floats-fit d.distribution r.held) (shape d q) d.lo d.hi (ends d q) x b in
-        record { draw = undrawn w v.value; is = ap (made (undrawn w)) v.is; range = record { taken = v.taken; range = inside-ranged d.distribution v.value v.range } }
+        record { draw = undrawn w v.value; is = ap (made (undrawn w)) v.is; range = v.range }
 
     go : (u : Option Float) → ((x : Float) → u ≡ Some x → T (continuous_of d.distribution) → Coordinate x) → DrawnIn d.distribution (step_of d u w)
     go None b = random
@@ -186,7 +175,7 @@ step-ranged d u w r h = go u
 pub record Ready (dims : List DimensionInfo) (k : ℕ) (r : Result Values Refusal) : Type 0 where
   pub made : Values
   pub is : r ≡ Ok made
-  pub range : (i : ℕ) → i < k → InRange (dimension_at dims i).distribution (get_or made.value i empty_value)
+  pub range : (i : ℕ) → i < k → T (in_range (dimension_at dims i).distribution (get_or made.value i empty_value))
 
 module _ (point : Option (List Float)) (dims : List DimensionInfo) (w : ℕ) (h : Nonzero w) where
   -- what the first k dimensions ask
@@ -212,11 +201,11 @@ module _ (point : Option (List Float)) (dims : List DimensionInfo) (w : ℕ) (h 
       let e : walked_of point dims k w ≡ Ok (values_in p.0) = ap (made values_in) p.1 in
       record { made = values_in p.0; is = e; range = λ i l. ranged i l ((walked-in point dims w k (values_in p.0) e).values i l) }
     where
-      ranged : (i : ℕ) {v : ParamValue} → i < k → Step point dims w i v → InRange (dimension_at dims i).distribution v
+      ranged : (i : ℕ) {v : ParamValue} → i < k → Step point dims w i v → T (in_range (dimension_at dims i).distribution v)
       ranged i l s =
           let r = step-in k a i s.before.drawn l in
           let q : r.draw ≡ s.draw = cc (r.is, s.is) in
-          rw s.value (subst (λ (d : Draw ParamValue). InRange (dimension_at dims i).distribution d.value) q r.range)
+          rw s.value (subst (λ (d : Draw ParamValue). T (in_range (dimension_at dims i).distribution d.value)) q r.range)
 
 -- a continuous dimension has a column of its own
 pub column-below : (dims : List DimensionInfo) (k j : ℕ) → j < k → T (continuous_of (dimension_at dims j).distribution) → length (columns_of dims j) < length (columns_of dims k)

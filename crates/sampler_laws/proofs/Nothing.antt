@@ -6,15 +6,11 @@ use mathlib.Core.Path.{◌≡◌, refl, ap, ◌∙◌}
 use mathlib.Core.Bool.{Bool, true, false, cond}
 use mathlib.Core.List.{List, [], ◌∷◌}
 use lib.Dec.{T, leb, leb→le}
-use lib.Signed.{le_z}
 use lib.ListN.{get_or, take, length-drop}
 use lib.Ieee.Bits.{is_true}
-use lib.Ieee.Fits.{and_i}
 use borrow.Author.Tests.{eq-eqb}
 use Rattle.arith.specs.Lists.{every}
-use Rattle.distribution.specs.declared.Distribution.{Distribution}
 use Rattle.distribution.specs.declared.ParamValue.{ParamValue}
-use Rattle.distribution.specs.Taken.{taken_of}
 use Rattle.distribution.proofs.Facts.{parts}
 use Rattle.history_view.specs.declared.View.{View}
 use Rattle.dimensions.specs.declared.DimensionInfo.{DimensionInfo}
@@ -39,26 +35,12 @@ use Rattle.proposal.specs.Proposal.{compute_candidate_of}
 use Rattle.dimensions.specs.Empty.{empty_value}
 use Rattle.proposal.proofs.Numbers.{accepted-is}
 use Rattle.proposal.proofs.WordCount.{view-columns}
-use Rattle.proposal.proofs.Ranges.{InRange, fit_number, fit-number, random-ranged, candidate-ranged}
+use Rattle.proposal.proofs.Ranges.{fit_number, fit-number, random-ranged, candidate-ranged}
 use Rattle.sampler_state.specs.declared.Sampler.{Sampler}
 use Rattle.sampler_laws.specs.Laws.{NothingRefused}
 use Rattle.sampler_laws.specs.NewTrials.{served_history, fit_made, fit_answer}
-use Rattle.sampler_state.specs.State.{stored_ok}
+use Rattle.distribution.specs.Range.{in_range}
 use Rattle.sampler_laws.proofs.Parts.{Well, well, Ready, ready}
-
--- ---- a value in range is one that a place may hold
-
-pub stored_ok_lem : (d : Distribution) (v : ParamValue) → InRange d v → T (stored_ok d v)
-unfolding taken_of
-stored_ok_lem (Distribution.Float d) (ParamValue.Float v) r = r.taken
-stored_ok_lem (Distribution.Float d) (ParamValue.Int v) r = r.taken
-stored_ok_lem (Distribution.Float d) (ParamValue.Categorical v) r = r.taken
-stored_ok_lem (Distribution.Int d) (ParamValue.Float v) r = r.taken
-stored_ok_lem (Distribution.Int d) (ParamValue.Int v) r = and_i (le_z d.low v) (le_z v d.high) r.range.0 r.range.1
-stored_ok_lem (Distribution.Int d) (ParamValue.Categorical v) r = r.taken
-stored_ok_lem (Distribution.Categorical d) (ParamValue.Float v) r = r.taken
-stored_ok_lem (Distribution.Categorical d) (ParamValue.Int v) r = r.taken
-stored_ok_lem (Distribution.Categorical d) (ParamValue.Categorical v) r = r.taken
 
 -- ---- the numbers of histories
 
@@ -108,7 +90,7 @@ refusal-small s h o =
 -- ---- the facts
 
 abbrev pub InRanges : List DimensionInfo → ℕ → Result (Draw (List ParamValue)) Refusal → Type 0
-InRanges dims k r = (c : Draw (List ParamValue)) × (r ≡ Ok c) × ((j : ℕ) → j < k → T (stored_ok (dimension_at dims j).distribution (get_or c.value j empty_value)))
+InRanges dims k r = (c : Draw (List ParamValue)) × (r ≡ Ok c) × ((j : ℕ) → j < k → T (in_range (dimension_at dims j).distribution (get_or c.value j empty_value)))
 
 module _ (settings : Settings) (dims : List DimensionInfo) (k word : ℕ) (g : Ready settings dims k word) (h : List ℕ) (r : check_of settings.slots h ≡ Ok tt) where
   abbrev view : View
@@ -133,7 +115,7 @@ module _ (settings : Settings) (dims : List DimensionInfo) (k word : ℕ) (g : R
       let m = candidate-ranged settings dims k word view g.nonzero (λ _. view-columns settings dims k word h asked) g.formed in (
         m.made,
         accepted-is settings dims k word h (is_true (settings_ok settings) g.settings-ok) (λ z. let l = g.nonzero.0 in omega arith) asked ∙ m.is,
-        λ j l. stored_ok_lem (dimension_at dims j).distribution _ (m.range j l),
+        m.range,
       )
 
 -- the history that a call is served with is not refused where its own is not
@@ -155,5 +137,5 @@ pub nothing_refused : NothingRefused
 nothing_refused = record {
   fit = λ s h t o r. fit_of_lem s (well s t o) h r;
   values = λ s h t o r. values_of s (well s t o) h r;
-  random = λ s d f x t o. let r = random-ranged s.word d (ready s (well s t o)).nonzero f x in (r.draw, r.is, stored_ok_lem d r.draw.value r.range);
+  random = λ s d f x t o. let r = random-ranged s.word d (ready s (well s t o)).nonzero f x in (r.draw, r.is, r.range);
 }

@@ -20,6 +20,7 @@ use Rattle.rng_util.specs.Generator.{moved_of}
 use Rattle.rng_util.proofs.Nonzero.{Nonzero, moved-nonzero}
 use Rattle.distribution.specs.declared.Distribution.{Distribution}
 use Rattle.distribution.specs.declared.ParamValue.{ParamValue}
+use Rattle.distribution.specs.Range.{in_range}
 use Rattle.distribution.specs.Shape.{shape_of}
 use Rattle.distribution.proofs.Facts.{parts}
 use Rattle.distribution_words.specs.RoundTrip.{Held}
@@ -37,11 +38,11 @@ use Rattle.proposal.proofs.Ranges.{random-ranged}
 use Rattle.proposal.proofs.WordCount.{Drawable, random-word, compute-words}
 use Rattle.sampler_state.specs.declared.Place.{Place}
 use Rattle.sampler_state.specs.declared.Sampler.{Sampler}
-use Rattle.sampler_state.specs.State.{held_by, stored_ok, stored_at, progress_ok}
+use Rattle.sampler_state.specs.State.{held_by, stored_at, progress_ok}
 use Rattle.sampler_state.proofs.Held.{held-own}
 use Rattle.sampler_laws.specs.declared.Serving.{Serving}
 use Rattle.sampler_laws.specs.Calls.{next_of, past_of, stored_of, new_trial_of, serving_of, serving_for}
-use Rattle.sampler_laws.proofs.Nothing.{values-made, stored_ok_lem}
+use Rattle.sampler_laws.proofs.Nothing.{values-made}
 use Rattle.sampler_laws.proofs.Parts.{Ready}
 
 -- it sees a history only through its view
@@ -121,19 +122,19 @@ module _ (settings : Settings) (dims : List DimensionInfo) (k word : ℕ) (p : O
     pub serving : Serving
     pub is : x ≡ Ok serving
     pub place : T (progress_ok dims k serving.place)
-    pub value : T (stored_ok (answered_for dims k p d) serving.draw.value)
+    pub value : T (in_range (answered_for dims k p d) serving.draw.value)
 
   pub serving-ranged : Ready settings dims k word → 1 ≤ k → check_of settings.slots h ≡ Ok tt → ((q : Place) → p ≡ Some q → T (progress_ok dims k q)) → Held d → T (shape_of d) → Ranged served
   serving-ranged g some r ok held shape =
       by-serving Ranged (λ q e l. record { serving = next_of word q; is = refl; place = further q (ok q e) l; value = rw (e, lt-ltb q.next_dim k l) (inside q (ok q e) l) })
-      (λ q e l. let x = random-ranged word d g.nonzero held shape in record { serving = record { draw = x.draw; place = q }; is = rw x.is; place = ok q e; value = rw (e, le-ltb q.next_dim k l) (stored_ok_lem d x.draw.value x.range) })
+      (λ q e l. let x = random-ranged word d g.nonzero held shape in record { serving = record { draw = x.draw; place = q }; is = rw x.is; place = ok q e; value = rw (e, le-ltb q.next_dim k l) (x.range) })
       (λ e. let m = values-made settings dims k word g h r in
       record { serving = stored_of trial m.0; is = rw m.1; place = progress (stored_of trial m.0).place (omega arith) some (each-every k _ m.2); value = rw e (m.2 0 some) })
     where
-      inside : (q : Place) → T (progress_ok dims k q) → q.next_dim < k → T (stored_ok (dimension_at dims q.next_dim).distribution (stored_at q q.next_dim))
-      inside q o l = every-each k (λ j. stored_ok (dimension_at dims j).distribution (stored_at q j)) (search parts) q.next_dim l
+      inside : (q : Place) → T (progress_ok dims k q) → q.next_dim < k → T (in_range (dimension_at dims q.next_dim).distribution (stored_at q q.next_dim))
+      inside q o l = every-each k (λ j. in_range (dimension_at dims j).distribution (stored_at q j)) (search parts) q.next_dim l
 
-      progress : (q : Place) → 1 ≤ q.next_dim → q.next_dim ≤ k → T (every k (λ j. stored_ok (dimension_at dims j).distribution (stored_at q j))) → T (progress_ok dims k q)
+      progress : (q : Place) → 1 ≤ q.next_dim → q.next_dim ≤ k → T (every k (λ j. in_range (dimension_at dims j).distribution (stored_at q j))) → T (progress_ok dims k q)
       progress q l m v =
           let a = le→leb 1 q.next_dim l in
           let b = le→leb q.next_dim k m in

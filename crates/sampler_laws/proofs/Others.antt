@@ -19,11 +19,10 @@ use Rattle.rng_util.specs.declared.Draw.{Draw}
 use Rattle.rng_util.specs.Draws.{read_by, word_draw_of, unit_draw_of, whole_draw_of, range_ok}
 use Rattle.distribution.proofs.Facts.{by-step}
 use Rattle.distribution.specs.declared.Distribution.{Distribution}
-use Rattle.distribution.specs.declared.ParamValue.{ParamValue}
 use Rattle.distribution.specs.Shape.{shape_of, continuous_of}
 use Rattle.encoding.specs.Bounds.{InternalBounds, pair_of, scale_of, ends_of, bounds_of}
 use Rattle.common.specs.Decode.{inside, unscale_of, decoded_of, from_internal_of}
-use Rattle.common.specs.Random.{drawing, log_range, log_float_random, stepped_float_random, linear_float_random, float_random, log_int_random, stepped_int_random, linear_int_random, int_random, categorical_random, random_of, sample_random_of}
+use Rattle.common.specs.Random.{drawing, log_range, log_float_random, stepped_float_random, linear_float_random, unclamped_random, float_random, log_int_random, stepped_int_random, linear_int_random, int_random, categorical_random, random_of, sample_random_of}
 use Rattle.dimensions.specs.declared.DimensionInfo.{DimensionInfo}
 use Rattle.dimensions.specs.Dimensions.{dimension_at, columns_of}
 use lib.ListN.{length}
@@ -116,15 +115,15 @@ whole-other : (w : ℕ) (a b : ℤ) → Other (whole_draw_of w a b)
 unfolding whole_draw_of
 whole-other w a b = by-test Other (range_ok a b) _ _ (λ _. read-other _ _ (word-other w)) (λ _. (domain _))
 
-log-drawn : (w : ℕ) (d : Distribution) (f : Float → ParamValue) → Other (drawing (λ u. made f (log_range (bounds_of d) u)) (unit_draw_of w))
+log-drawn : {A : Type 0} (w : ℕ) (d : Distribution) (f : Float → A) → Other (drawing (λ u. made f (log_range (bounds_of d) u)) (unit_draw_of w))
 log-drawn w d f = then-other _ _ (unit-other w) (λ x. made-other _ _ (made-other f _ (log-other (bounds_of d) x.value (bounds-other d))))
 
 pub random-other : (w : ℕ) (d : Distribution) → Other (sample_random_of w d)
-unfolding sample_random_of random_of float_random int_random log_float_random stepped_float_random linear_float_random log_int_random stepped_int_random linear_int_random categorical_random
+unfolding sample_random_of random_of float_random unclamped_random int_random log_float_random stepped_float_random linear_float_random log_int_random stepped_int_random linear_int_random categorical_random
 random-other w d = by-test Other (shape_of d) _ _ (λ _. random d) (λ _. (domain _))
   where
     random : (d : Distribution) → Other (random_of w d)
-    random (Distribution.Float d) = by-test Other d.log_scale _ _ (λ _. log-drawn w (Distribution.Float d) _) (λ _. by-step Other _ d.step _ (λ _ _. read-other _ _ (whole-other w _ _)) (λ _. read-other _ _ (unit-other w)))
+    random (Distribution.Float d) = read-other _ _ (by-test Other d.log_scale _ _ (λ _. log-drawn w (Distribution.Float d) _) (λ _. by-step Other _ d.step _ (λ _ _. read-other _ _ (whole-other w _ _)) (λ _. read-other _ _ (unit-other w))))
     random (Distribution.Int d) = by-test Other d.log_scale _ _ (λ _. log-drawn w (Distribution.Int d) _) (λ _. by-step Other _ d.step _ (λ _ _. read-other _ _ (whole-other w _ _)) (λ _. read-other _ _ (whole-other w _ _)))
     random (Distribution.Categorical d) = read-other _ _ (whole-other w _ _)
 

@@ -9,6 +9,7 @@ use Rattle.rng_util.specs.Generator.{moved_of}
 use Rattle.distribution.specs.declared.Distribution.{Distribution}
 use Rattle.distribution.specs.declared.ParamValue.{ParamValue}
 use Rattle.distribution_words.specs.RoundTrip.{Held}
+use Rattle.distribution.specs.Range.{in_range}
 use Rattle.distribution.specs.Shape.{shape_of}
 use Rattle.distribution_words.specs.Words.{read_of}
 use Rattle.common.specs.Random.{sample_random_of}
@@ -27,7 +28,7 @@ use Rattle.sampler_laws.specs.Causes.{first_cause, cause_of, fit_cause_of}
 use Rattle.sampler_laws.specs.NewTrials.{new_trial, served_history, fit_made, fit_answer, has_model, continuous, choices, RandomStored, BestStored}
 use Rattle.sampler_laws.specs.Runs.{Asked, asks, closes, Call, call_of, call_number, drawn_in, answers_of, end_of, with_histories, Along, Alike}
 use Rattle.sampler_laws.specs.Served.{ServedRight}
-use Rattle.sampler_state.specs.State.{fresh_of, make_of, trial_place, held_by, taken_count, stored_ok, sampler_ok}
+use Rattle.sampler_state.specs.State.{fresh_of, make_of, trial_place, held_by, taken_count, sampler_ok}
 
 -- ---- demand 3, one statement about the whole list
 
@@ -108,10 +109,10 @@ pub record NothingRefused : Type 0 where
   -- a new trial's values are made and in range: no decoding and no draw is refused, nor an exp or ln in it
   pub values : (s : Sampler) (h : List ℕ) → Typed s → T (sampler_ok s) → check_of s.settings.slots h ≡ Ok tt
       → (c : Draw (List ParamValue)) × (compute_candidate_of s.settings s.dimensions.list s.dimensions.count s.word (served_history s h) ≡ Ok c)
-      × ((j : ℕ) → j < s.dimensions.count → T (stored_ok (dimension_at s.dimensions.list j).distribution (get_or c.value j empty_value)))
+      × ((j : ℕ) → j < s.dimensions.count → T (in_range (dimension_at s.dimensions.list j).distribution (get_or c.value j empty_value)))
   -- nor is any other draw
   pub random : (s : Sampler) (d : Distribution) → Held d → T (shape_of d) → Typed s → T (sampler_ok s)
-      → (r : Draw ParamValue) × (sample_random_of s.word d ≡ Ok r) × T (stored_ok d r.value)
+      → (r : Draw ParamValue) × (sample_random_of s.word d ≡ Ok r) × T (in_range d r.value)
 
 -- ---- places
 

@@ -6,12 +6,13 @@ use mathlib.Core.Bool.{Bool, true, false}
 use mathlib.Core.List.{List, [], ◌∷◌}
 use lib.ListN.{replicate, set}
 use lib.IntN.{pos, negsuc}
-use lib.Ieee.{binary64, of_bits, to_bits, of_int, le, lt, eq, neg}
+use lib.Ieee.{binary64, of_bits, to_bits, of_int, add, sub, mul, div, le, lt, eq, neg}
 use Rattle.arith.specs.Lists.{every, filled}
+use Rattle.arith.specs.Rounding.{floor_of}
+use Rattle.distribution.specs.Numbers.{FloatDistribution}
 use Rattle.distribution.specs.declared.Distribution.{Distribution}
 use Rattle.distribution.specs.declared.ParamValue.{ParamValue}
 use Rattle.distribution.specs.Shape.{shape_of, float_shape, float_step, int_shape, int_step, categorical_shape}
-use Rattle.distribution.specs.Taken.{float_taken}
 use Rattle.encoding.specs.Bounds.{bounds_of, ends_of}
 use Rattle.dimensions.specs.declared.DimensionInfo.{DimensionInfo}
 use Rattle.dimensions.specs.Dimensions.{dimension_ok, dimensions_ok}
@@ -38,6 +39,16 @@ bounded d lo hi = record { distribution = d; lo = of_bits binary64 lo; hi = of_b
 
 abbrev unit : DimensionInfo
 unit = bounded (float false) 0 0x3ff0000000000000
+
+abbrev decade : DimensionInfo
+decade =
+    let d : FloatDistribution = record { low = of_bits binary64 0x4024000000000000; high = of_bits binary64 0x4059000000000000; log_scale = true; step = None } in
+    bounded (Distribution.Float d) 0 0
+
+abbrev hundredths : DimensionInfo
+hundredths =
+    let d : FloatDistribution = record { low = of_bits binary64 0; high = of_bits binary64 0x3fd6666666666666; log_scale = false; step = Some (of_bits binary64 0x3f847ae147ae147b) } in
+    bounded (Distribution.Float d) 0 0x3fd6666666666666
 
 abbrev digit : DimensionInfo
 digit = bounded int 0x4000000000000000 0x4022000000000000
@@ -89,8 +100,19 @@ storing values = holding (set free 31 (held 7 1 values))
 abbrev trials : ℕ → ℕ → Bool
 trials a b = holding (set (set free 30 (held a 1 good)) 31 (held b 1 good))
 
-abbrev stored_float : Bool → ℕ → Bool
-stored_float log x = place_ok true (bounded (float log) 0 0 ∷ []) 1 (held 7 1 (ParamValue.Float (of_bits binary64 x) ∷ []))
+-- one float, stored for the unit interval, for 10..100 on log scale (where the bounds are not asked), and for 0..0.35 in
+-- steps of 0.01
+abbrev alone : DimensionInfo → ℕ → Bool
+alone d x = sampler_ok (sampler 1 5 true (d ∷ []) 1 (set free 31 (held 7 1 (ParamValue.Float (of_bits binary64 x) ∷ []))))
+
+abbrev in_unit : ℕ → Bool
+in_unit = alone unit
+
+abbrev in_decade : ℕ → Bool
+in_decade x = place_ok true (decade ∷ []) 1 (held 7 1 (ParamValue.Float (of_bits binary64 x) ∷ []))
+
+abbrev in_hundredths : ℕ → Bool
+in_hundredths = alone hundredths
 
 abbrev Clauses : Type 0
 Clauses =
@@ -126,15 +148,20 @@ Clauses =
     × (storing (half ∷ ParamValue.Int (pos 9) ∷ ParamValue.Categorical 0 ∷ []) ≡ true)
     × (storing (half ∷ ParamValue.Int (pos 10) ∷ ParamValue.Categorical 0 ∷ []) ≡ false)
     × (storing (half ∷ ParamValue.Int (pos 2) ∷ ParamValue.Categorical 5 ∷ []) ≡ false)
-    -- a float by the Taken rule: to 2^53 in size, on log scale at least 2^-53, and no NaN
-    × (stored_float false 0x4340000000000000 ≡ true)
-    × (stored_float false 0x4340000000000001 ≡ false)
-    × (stored_float false 0xc340000000000000 ≡ true)
-    × (stored_float false 0xc340000000000001 ≡ false)
-    × (stored_float false 0x7ff8000000000000 ≡ false)
-    × (stored_float true 0x3ca0000000000000 ≡ true)
-    × (stored_float true 0x3c9fffffffffffff ≡ false)
-    × (stored_float false 0x3c9fffffffffffff ≡ true)
+    -- a float from low to high, both ends with it and -0 at +0, and no NaN
+    × (in_unit 0 ≡ true)
+    × (in_unit 0x8000000000000000 ≡ true)
+    × (in_unit 0x8000000000000001 ≡ false)
+    × (in_unit 0x3ff0000000000000 ≡ true)
+    × (in_unit 0x3ff0000000000001 ≡ false)
+    × (in_unit 0x7ff8000000000000 ≡ false)
+    -- and so on log scale, and with a step, where it may lie off the grid
+    × (in_decade 0x4024000000000000 ≡ true)
+    × (in_decade 0x4023ffffffffffff ≡ false)
+    × (in_decade 0x4059000000000003 ≡ false)
+    × (in_hundredths 0x3fd6666666666666 ≡ true)
+    × (in_hundredths 0x3fd6666666666667 ≡ false)
+    × (in_hundredths 0x3f747ae147ae147b ≡ true)
     -- a value is of its dimension's kind; past the last dimension it may be any
     × (storing (ParamValue.Int (pos 0) ∷ ParamValue.Int (pos 7) ∷ ParamValue.Categorical 4 ∷ []) ≡ false)
     × (storing (half ∷ half ∷ ParamValue.Categorical 4 ∷ []) ≡ false)
@@ -148,5 +175,5 @@ Clauses =
     × (trials 7 7 ≡ false)
 
 clauses : Clauses
-unfolding sampler_ok settings_ok place_ok trials_once dimension_ok dimensions_ok every bounds_of ends_of shape_of float_shape float_step int_shape int_step categorical_shape float_taken of_bits to_bits of_int le lt eq neg
-clauses = (refl, refl, refl, refl, refl, refl, refl, refl, refl, refl, refl, refl, refl, refl, refl, refl, refl, refl, refl, refl, refl, refl, refl, refl, refl, refl, refl, refl, refl, refl, refl, refl, refl, refl, refl, refl, refl, refl, refl, refl, refl, refl, refl)
+unfolding sampler_ok settings_ok place_ok trials_once dimension_ok dimensions_ok every bounds_of ends_of shape_of float_shape float_step int_shape int_step categorical_shape of_bits to_bits of_int add sub mul div le lt eq neg floor_of
+clauses = (refl, refl, refl, refl, refl, refl, refl, refl, refl, refl, refl, refl, refl, refl, refl, refl, refl, refl, refl, refl, refl, refl, refl, refl, refl, refl, refl, refl, refl, refl, refl, refl, refl, refl, refl, refl, refl, refl, refl, refl, refl, refl, refl, refl, refl, refl, refl)

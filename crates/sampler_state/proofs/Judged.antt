@@ -6,13 +6,14 @@ use Rattle.arith.specs.Lists.{every}
 use Rattle.arith.proofs.Lists.{every-same}
 use Rattle.dimensions.specs.declared.DimensionInfo.{DimensionInfo}
 use Rattle.dimensions.specs.Dimensions.{no_dimension, dimension_at, dimensions_ok}
+use Rattle.distribution.specs.Range.{in_range}
 use Rattle.distribution.specs.declared.ParamValue.{ParamValue}
 use Rattle.dimensions.specs.Empty.{empty_value}
 use Rattle.std.specs.List.{list_all, zip}
 use Rattle.std.proofs.lemmas.Slice.Zip.{get_or-zip, length-zip}
 use Rattle.arith.proofs.Passing.{all_every}
 use Rattle.sampler_state.specs.declared.Place.{Place}
-use Rattle.sampler_state.specs.State.{empty_place, place_at, stored_ok, stored_at, progress_ok, place_ok, trials_once, sampler_ok}
+use Rattle.sampler_state.specs.State.{empty_place, place_at, stored_at, progress_ok, place_ok, trials_once, sampler_ok}
 use Rattle.sampler_state.specs.declared.Sampler.{Sampler}
 use Rattle.arith.proofs.Tests.{taken as taken_test}
 use Rattle.dimensions.proofs.Ok.{dimensions-ok}
@@ -20,16 +21,16 @@ use Rattle.settings.specs.Settings.{settings_ok}
 
 -- the values beside their dimensions
 values_zip : (ds : List DimensionInfo) (vs : List ParamValue) → length ds ≤ length vs
-    → list_all (λ (p : DimensionInfo × ParamValue). stored_ok p.0.distribution p.1) (zip ds vs) ≡ every (length ds) (λ j. stored_ok (dimension_at ds j).distribution (get_or vs j empty_value))
+    → list_all (λ (p : DimensionInfo × ParamValue). in_range p.0.distribution p.1) (zip ds vs) ≡ every (length ds) (λ j. in_range (dimension_at ds j).distribution (get_or vs j empty_value))
 values_zip ds vs h =
-    let test : DimensionInfo × ParamValue → Bool = λ p. stored_ok p.0.distribution p.1 in
+    let test : DimensionInfo × ParamValue → Bool = λ p. in_range p.0.distribution p.1 in
     let d : DimensionInfo × ParamValue = (no_dimension, empty_value) in
     let e = length-zip ds vs in
     all_every test (zip ds vs) d (length ds) (omega arith)
     ∙ every-same (length ds) _ _ (λ i l. ap test (get_or-zip ds vs i d l (omega arith)))
 
 pub progress_zip : (ds : List DimensionInfo) (p : Place) → length ds ≤ length p.values → 1 ≤ p.next_dim → p.next_dim ≤ length ds
-    → list_all (λ (q : DimensionInfo × ParamValue). stored_ok q.0.distribution q.1) (zip ds p.values) ≡ progress_ok ds (length ds) p
+    → list_all (λ (q : DimensionInfo × ParamValue). in_range q.0.distribution q.1) (zip ds p.values) ≡ progress_ok ds (length ds) p
 progress_zip ds p h a b = rw (le-leb 1 p.next_dim a, le-leb p.next_dim (length ds) b) (values_zip ds p.values h)
 
 place_front : (a : Bool) (ds : List DimensionInfo) (n : ℕ) (p : Option Place) → place_ok a (take n ds) n p ≡ place_ok a ds n p
@@ -37,8 +38,8 @@ unfolding place_ok
 place_front a ds n None = refl
 place_front a ds n (Some p) =
     ap (λ (b : Bool). a && (leb 1 p.next_dim && leb p.next_dim n && b))
-    (every-same n (λ j. stored_ok (dimension_at (take n ds) j).distribution (stored_at p j)) (λ j. stored_ok (dimension_at ds j).distribution (stored_at p j))
-    (λ i h. ap (λ (d : DimensionInfo). stored_ok d.distribution (stored_at p i)) (get_or-take n ds i _ h)))
+    (every-same n (λ j. in_range (dimension_at (take n ds) j).distribution (stored_at p j)) (λ j. in_range (dimension_at ds j).distribution (stored_at p j))
+    (λ i h. ap (λ (d : DimensionInfo). in_range d.distribution (stored_at p i)) (get_or-take n ds i _ h)))
 
 places_front : (a : Bool) (ds : List DimensionInfo) (n : ℕ) (front : List DimensionInfo) → front ≡ take n ds → length front ≡ n → (ps : List (Option Place)) → length ps ≡ 32
     → list_all (place_ok a front (length front)) ps ≡ every 32 (λ i. place_ok a ds n (place_at ps i))

@@ -1,13 +1,12 @@
 -- "Sampler: settings, generator word, phase, discovery trial number, at most 20 dimensions, 32 progress places (trial, values, next dimension)." Definitions only.
 use Rattle.std.specs.Prelude.{ℕ, Bool, true, false, not, ◌&&◌, ◌||◌, cond, List, eqb, leb, ltb, length, get_or, replicate, Option, Some, None, is_some, Result, Ok, Err}
-use Rattle.std.specs.Int.Signed.{le_z}
 use Rattle.std.specs.Float.{binary64}
 use Rattle.std.specs.Float.Ieee.{of_bits}
 use Rattle.arith.specs.Lists.{every, place_of, places_of}
 use Rattle.refusal.specs.declared.Refusal.{Refusal}
 use Rattle.distribution.specs.declared.Distribution.{Distribution}
 use Rattle.distribution.specs.declared.ParamValue.{ParamValue}
-use Rattle.distribution.specs.Taken.{float_taken}
+use Rattle.distribution.specs.Range.{in_range}
 use Rattle.dimensions.specs.declared.DimensionInfo.{DimensionInfo}
 use Rattle.dimensions.specs.Dimensions.{dimension_at, dimensions_ok}
 use Rattle.settings.specs.declared.Settings.{Settings}
@@ -77,18 +76,6 @@ taken_count places = length (places_of 32 (λ i. taken (place_at places i)))
 
 -- ---- "One handed in with a field out of range, bounds not its distribution's, no dimension when active or a trial twice is refused first, with 11."
 
--- a stored value's range: its dimension's kind; an int in low..high, a choice below the count, a float by the Taken rule
-abbrev pub stored_ok : Distribution → ParamValue → Bool
-stored_ok (Distribution.Float d) (ParamValue.Float v) = float_taken d.log_scale v
-stored_ok (Distribution.Float d) (ParamValue.Int z) = false
-stored_ok (Distribution.Float d) (ParamValue.Categorical i) = false
-stored_ok (Distribution.Int d) (ParamValue.Float v) = false
-stored_ok (Distribution.Int d) (ParamValue.Int z) = le_z d.low z && le_z z d.high
-stored_ok (Distribution.Int d) (ParamValue.Categorical i) = false
-stored_ok (Distribution.Categorical d) (ParamValue.Float v) = false
-stored_ok (Distribution.Categorical d) (ParamValue.Int z) = false
-stored_ok (Distribution.Categorical d) (ParamValue.Categorical i) = ltb i d.n_choices
-
 abbrev pub stored_at : Place → ℕ → ParamValue
 stored_at p j = get_or p.values j empty_value
 
@@ -96,7 +83,7 @@ stored_at p j = get_or p.values j empty_value
 abbrev pub progress_ok : List DimensionInfo → ℕ → Place → Bool
 progress_ok dims k p =
     leb 1 p.next_dim && leb p.next_dim k
-    && every k (λ j. stored_ok (dimension_at dims j).distribution (stored_at p j))
+    && every k (λ j. in_range (dimension_at dims j).distribution (stored_at p j))
 
 -- free, or of an active sampler and so far in its dimensions
 unfoldable pub place_ok : Bool → List DimensionInfo → ℕ → Option Place → Bool

@@ -4,30 +4,12 @@ ghost use Rattle.std.specs.Int.Signed.{le_z};
 ghost use Rattle.std.specs.List.{list_all, zip};
 ghost use Rattle.settings.specs.Settings.{settings_ok};
 ghost use Rattle.sampler_state.specs.State.{same_trial, trials_once};
-ghost use Rattle.sampler_state.specs.State.{stored_ok, progress_ok, place_ok, sampler_ok};
+ghost use Rattle.distribution.specs.Range.{in_range};
+ghost use Rattle.sampler_state.specs.State.{progress_ok, place_ok, sampler_ok};
 
 use crate::{Place, Sampler, places};
 use dimensions::{DimensionInfo, Dimensions};
 use distribution::{Distribution, IntDistribution, ParamValue};
-
-// Whether an int's value lies between its ends.
-fn int_ok(d: IntDistribution, z: i64) -> bool
-    ensures { result ≡ (le_z d.low z && le_z z d.high) }
-{
-    (d.low..=d.high).contains(&z)
-}
-
-// Whether a value is one that a place stores for the distribution.
-fn value_ok(d: Distribution, value: ParamValue) -> bool
-    ensures { result ≡ stored_ok d value }
-{
-    match (d, value) {
-        (Distribution::Float(f), ParamValue::Float(x)) => distribution::float_taken(f.log_scale, x),
-        (Distribution::Int(i), ParamValue::Int(z)) => int_ok(i, z),
-        (Distribution::Categorical(c), ParamValue::Categorical(k)) => k < c.n_choices,
-        _ => false,
-    }
-}
 
 // What places are judged by: whether the sampler is active, and its dimensions.
 #[derive(Drop)]
@@ -40,9 +22,9 @@ struct Judge<'a> {
 impl Judge<'_> {
     // Whether there is a value in range for each dimension.
     fn values_ok(&self, values: &[ParamValue; 20]) -> bool
-        ensures { result ≡ list_all (λ p. stored_ok p.0.distribution p.1) (zip self.now.dimensions.now values.now) }
+        ensures { result ≡ list_all (λ p. in_range p.0.distribution p.1) (zip self.now.dimensions.now values.now) }
     {
-        self.dimensions.iter().zip(values).all(|(dimension, value)| value_ok(
+        self.dimensions.iter().zip(values).all(|(dimension, value)| distribution::in_range(
             dimension.distribution,
             *value,
         ))
