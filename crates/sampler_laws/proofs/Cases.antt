@@ -65,7 +65,7 @@ abbrev second : Sampled
 second = int first.sampler 7
 
 -- another trial ends discovery: both its values are drawn and stored
-abbrev third : Sampled
+abbrev pub third : Sampled
 third = choice second.sampler 8
 
 abbrev fourth : Sampled
@@ -79,7 +79,7 @@ abbrev closed : Sampled
 closed = close_of fifth.sampler 8
 
 -- an accepted answer with a value, and a refused call
-abbrev told : ParamValue → ℕ → Result Answer Refusal
+abbrev pub told : ParamValue → ℕ → Result Answer Refusal
 told v drawn = Ok (record { value = Some v; drawn = drawn })
 
 abbrev Run : Type 0
@@ -108,10 +108,10 @@ abbrev asked : ℕ → ℕ → Asked
 asked kind high = record { kind = kind; low = cond (eqb kind 3) high 0; high = cond (eqb kind 3) 0 high; log = 0; stepped = 0; step = 0 }
 
 -- the choice of 5 and the int from 0 to 9
-abbrev choose : ℕ → Call
+abbrev pub choose : ℕ → Call
 choose trial = asks (asked 3 5) trial []
 
-abbrev count : ℕ → Call
+abbrev pub count : ℕ → Call
 count trial = asks (asked 2 9) trial []
 
 abbrev Laws : Type 0

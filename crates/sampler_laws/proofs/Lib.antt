@@ -1,5 +1,5 @@
 pub mod Best
-mod Cases
+pub mod Cases
 pub mod Causes
 pub mod Changes
 pub mod EqualRuns
@@ -9,6 +9,8 @@ pub mod OneTrial
 mod Others
 pub mod Parts
 pub mod PlaceCounts
+pub mod Received
+mod ReceivedCases
 pub mod SameAnswers
 pub mod Served
 pub mod Ways

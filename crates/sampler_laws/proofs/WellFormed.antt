@@ -27,7 +27,7 @@ use Rattle.settings.specs.declared.Settings.{Settings}
 use Rattle.settings.specs.Settings.{settings_ok}
 use Rattle.sampler_state.specs.declared.Place.{Place}
 use Rattle.sampler_state.specs.declared.Sampler.{Sampler}
-use Rattle.sampler_state.specs.State.{empty_place, fresh_of, place_at, held_by, progress_ok, place_ok, sampler_ok}
+use Rattle.sampler_state.specs.State.{empty_place, fresh_of, place_at, trial_place, held_by, progress_ok, place_ok, sampler_ok}
 use Rattle.sampler_state.proofs.Held.{Once, own-or-none, spot-once, emptied-once}
 use Rattle.sampler_laws.specs.declared.Accepted.{Accepted}
 use Rattle.sampler_laws.specs.declared.Sampled.{Sampled}
@@ -70,10 +70,17 @@ module _ (s : Sampler) (g : Well s) where
       go false true e z past = absurd (true≢false (sym past))
       go false false e z past = ended s g e (eqb-false s.dimensions.count 0 z)
 
-  -- what a trial's place holds is in range
-  held-ok : (trial : ℕ) (q : Place) → held_by s.places trial ≡ Some q → T (progress_ok s.dimensions.list s.dimensions.count q)
-  held-ok trial q e = elim (own-or-none s.places g.typed.places trial) [
-    | inl o ↦ (ok-taken s.active s.dimensions.list s.dimensions.count q (subst (λ (p : Option Place). T (place_ok s.active s.dimensions.list s.dimensions.count p)) e (g.ok.places _ o.below))).1
+  -- a trial with a place: discovery has ended, and what the place holds is in range
+  pub record Placed (trial : ℕ) (q : Place) : Type 0 where
+    pub below : trial_place s.places trial < 32
+    pub active : T s.active
+    pub progress : T (progress_ok s.dimensions.list s.dimensions.count q)
+
+  pub placed : (trial : ℕ) (q : Place) → held_by s.places trial ≡ Some q → Placed trial q
+  placed trial q e = elim (own-or-none s.places g.typed.places trial) [
+    | inl o ↦
+        let f = ok-taken s.active s.dimensions.list s.dimensions.count q (subst (λ (p : Option Place). T (place_ok s.active s.dimensions.list s.dimensions.count p)) e (g.ok.places _ o.below)) in
+        record { below = o.below; active = f.0; progress = f.1 }
     | inr o ↦ absurd (let z = sym o.empty ∙ e in cc)
   ]
 
@@ -85,7 +92,7 @@ module _ (s : Sampler) (g : Well s) where
     served r p past =
         let f = held-read r p in
         serving-ranged s.settings s.dimensions.list s.dimensions.count s.word (held_by s.places trial) r trial (served_history s h) (ready s g) (leb→le 1 s.dimensions.count (goes_on trial past).ok.some)
-        (served-accepted s h g.ok.settings p.history) (held-ok trial) f.0 f.1
+        (served-accepted s h g.ok.settings p.history) (λ q e. (placed trial q e).progress) f.0 f.1
 
     -- no draw from a distribution asked is refused, and no serving
     pub draws : (r : Distribution) → Passed s d h r → (c : Refusal) → sample_random_of s.word r ≡ Err c → ⊥

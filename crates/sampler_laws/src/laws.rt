@@ -1,5 +1,6 @@
 // What is promised of every run of the calls.
 ghost use Rattle.sampler_laws.specs.Laws.{EqualRuns, WordsDrawn, WellFormed, RefusalsTold, CallsServed, NothingRefused, PlacesCounted};
+ghost use Rattle.sampler_laws.specs.Received.{Received};
 
 // Two runs whose histories agree answer the same and end in the same sampler, and every new trial with a model stores the best point drawn for it.
 pub fn equal_runs()
@@ -40,4 +41,11 @@ pub fn nothing_refused()
 #[tactic(auto, using(crate::proofs::PlaceCounts::places_counted))]
 pub fn places_counted()
     ensures { PlacesCounted }
+{}
+
+// Along every run, each value that a sample call answers is in range of the distribution it was drawn or decoded for: a
+// float lies between that distribution's low and high.
+#[tactic(auto, using(crate::proofs::Received::received))]
+pub fn received()
+    ensures { Received }
 {}

@@ -1,0 +1,101 @@
+-- "Every float that weavers receive then lies between low and high of the distribution it was drawn or decoded for."
+-- Which distribution that is, is told along a run, and never by the value. Definitions and statements only.
+use Rattle.std.specs.Prelude.{ℕ, ◌^◌, ◌<◌, ◌≡◌, ◌&&◌, cond, List, [], ◌∷◌, T, eqb, slice_get, Float, Option, Some, None, Ok}
+use Rattle.std.specs.Float.Ieee.{le}
+use Rattle.arith.specs.Lists.{list_of}
+use Rattle.distribution.specs.Numbers.{FloatDistribution}
+use Rattle.distribution.specs.declared.Distribution.{Distribution}
+use Rattle.distribution.specs.declared.ParamValue.{ParamValue}
+use Rattle.distribution.specs.Range.{in_range}
+use Rattle.dimensions.specs.Dimensions.{dimension_at}
+use Rattle.settings.specs.declared.Settings.{Settings}
+use Rattle.settings.specs.Settings.{settings_ok}
+use Rattle.sampler_state.specs.declared.Place.{Place}
+use Rattle.sampler_state.specs.declared.Sampler.{Sampler}
+use Rattle.sampler_state.specs.State.{fresh_of, held_by, stored_at, sampler_ok}
+use Rattle.sampler_laws.specs.declared.Answer.{Answer}
+use Rattle.sampler_laws.specs.Laws.{Typed, stored_next}
+use Rattle.sampler_laws.specs.NewTrials.{new_trial}
+use Rattle.sampler_laws.specs.Runs.{asks, closes, Call, call_of, read_asked}
+
+-- ---- the distribution that a value was drawn or decoded for
+
+-- of each trial the distributions that were in force when it was opened, in the order of the dimensions
+abbrev pub Noted : Type 0
+Noted = ℕ → List Distribution
+
+abbrev pub in_force : Sampler → List Distribution
+in_force s = list_of (λ j. (dimension_at s.dimensions.list j).distribution) s.dimensions.count
+
+-- a new trial is noted with them, for good
+abbrev pub noted_of : Noted → Sampler → Call → Noted
+noted_of m s (asks d trial h) = λ t. cond (new_trial s (asks d trial h) && eqb t trial) (in_force s) (m t)
+noted_of m s (closes trial) = m
+
+-- what a trial's next stored value was made for
+abbrev pub next_noted : List Distribution → Option Place → Option Distribution
+next_noted ds (Some p) = slice_get ds p.next_dim
+next_noted ds None = None
+
+-- a new trial answers its first dimension's value, a trial with a stored value that one, whatever is asked: "Stored
+-- values .. are returned whatever is asked"; in discovery and past the last the asked distribution is drawn from
+unfoldable pub served_for : Noted → Sampler → Call → Option Distribution
+unfolding new_trial
+served_for m s (asks d trial h) =
+    cond (new_trial s (asks d trial h)) (slice_get (in_force s) 0)
+    (cond (stored_next s trial) (next_noted (m trial) (held_by s.places trial)) (read_asked d))
+served_for m s (closes trial) = None
+
+-- ---- in its range
+
+-- an answered value is in range of it
+pub record ReceivedFor (m : Noted) (s : Sampler) (c : Call) (v : ParamValue) : Type 0 where
+  pub distribution : Distribution
+  pub served : served_for m s c ≡ Some distribution
+  pub in_range : T (in_range distribution v)
+
+abbrev pub InRange : Noted → Sampler → Call → Type 0
+InRange m s c = (a : Answer) → (call_of s c).answer ≡ Ok a → (v : ParamValue) → a.value ≡ Some v → ReceivedFor m s c v
+
+-- an answered float lies between its low and high
+pub record FloatReceived (m : Noted) (s : Sampler) (c : Call) (v : Float) : Type 0 where
+  pub distribution : FloatDistribution
+  pub served : served_for m s c ≡ Some (Distribution.Float distribution)
+  pub low : T (le distribution.low v)
+  pub high : T (le v distribution.high)
+
+abbrev pub FloatBetween : Noted → Sampler → Call → Type 0
+FloatBetween m s c =
+    (a : Answer) → (call_of s c).answer ≡ Ok a
+    → (v : Float) → a.value ≡ Some (ParamValue.Float v) → FloatReceived m s c v
+
+-- of each call of a run, the memory going on as the sampler does
+unfoldable pub AlongNoted : (Noted → Sampler → Call → Type 0) → Noted → Sampler → List Call → Type 0
+AlongNoted P m s [] = Unit
+AlongNoted P m s (c ∷ cs) = P m s c × AlongNoted P (noted_of m s c) (call_of s c).sampler cs
+
+-- ---- what is noted for the values that are stored
+
+-- value j of a place is in range of the distribution noted for it
+pub record NotedFor (ds : List Distribution) (p : Place) (j : ℕ) : Type 0 where
+  pub distribution : Distribution
+  pub noted : slice_get ds j ≡ Some distribution
+  pub in_range : T (in_range distribution (stored_at p j))
+
+abbrev pub Kept : Noted → Sampler → Type 0
+Kept m s =
+    (trial : ℕ) (p : Place) → held_by s.places trial ≡ Some p
+    → (j : ℕ) → j < s.dimensions.count → NotedFor (m trial) p j
+
+pub record Received : Type 0 where
+  -- at every call on a well-formed sampler, whose values are in range of what is noted for them
+  pub call : (m : Noted) (s : Sampler) (c : Call) → Typed s → T (sampler_ok s) → Kept m s
+      → InRange m s c × Kept (noted_of m s c) (call_of s c).sampler
+  -- along every run: "From a fresh sampler", whatever was noted before
+  pub run : (m : Noted) (s : Settings) → s.seed < 2 ^ 64 → T (settings_ok s) → (cs : List Call)
+      → AlongNoted InRange m (fresh_of s) cs
+  pub floats : (m : Noted) (s : Settings) → s.seed < 2 ^ 64 → T (settings_ok s) → (cs : List Call)
+      → AlongNoted FloatBetween m (fresh_of s) cs
+  -- and from every well-formed sampler, each of whose trials is noted with its dimensions
+  pub handed_in : (s : Sampler) → Typed s → T (sampler_ok s) → (cs : List Call)
+      → Kept (λ t. in_force s) s × AlongNoted InRange (λ t. in_force s) s cs
