@@ -1,4 +1,4 @@
--- What a run notes, and what its calls answer for, computed along the run of one dial; and a stored value of another run. Assumes nothing.
+-- What a run notes, and what its calls answer for, computed along a run of one float; and a stored value of another run. Assumes nothing.
 use Prim.Native.Nat.{ℕ}
 use mathlib.Core.Path.{◌≡◌, refl}
 use mathlib.Core.Bool.{true, false}
@@ -40,11 +40,11 @@ use Rattle.sampler_laws.proofs.Cases.{told, third, choose, count}
 -- ---- what a value was drawn or decoded for
 
 -- a float from 0.0001 to 0.1 on log scale, as six words and as the distribution, and the int from 0 to 9
-abbrev dial : Asked
-dial = record { kind = 1; low = 0x3f1a36e2eb1c432d; high = 0x3fb999999999999a; log = 1; stepped = 0; step = 0 }
+abbrev asked_float : Asked
+asked_float = record { kind = 1; low = 0x3f1a36e2eb1c432d; high = 0x3fb999999999999a; log = 1; stepped = 0; step = 0 }
 
-abbrev turn : ℕ → Call
-turn trial = asks dial trial []
+abbrev asks_float : ℕ → Call
+asks_float trial = asks asked_float trial []
 
 abbrev float : Distribution
 float = Distribution.Float (record { low = of_bits binary64 0x3f1a36e2eb1c432d; high = of_bits binary64 0x3fb999999999999a; log_scale = true; step = None })
@@ -53,11 +53,11 @@ abbrev number : Distribution
 number = Distribution.Int (record { low = pos 0; high = pos 9; log_scale = false; step = None })
 
 -- start-up 10, no candidates: trial 7 discovers the float; trial 8 asks the int twice
-abbrev loom : Sampler
-loom = fresh_of (record { n_startup_trials = 10; n_candidates = 0; noise_variance = of_bits binary64 0; seed = 0x581299a8616bfcb4; slots = 1 })
+abbrev begun : Sampler
+begun = fresh_of (record { n_startup_trials = 10; n_candidates = 0; noise_variance = of_bits binary64 0; seed = 0x581299a8616bfcb4; slots = 1 })
 
 abbrev discovered : Sampled
-discovered = call_of loom (turn 7)
+discovered = call_of begun (asks_float 7)
 
 abbrev opened : Sampled
 opened = call_of discovered.sampler (count 8)
@@ -76,14 +76,14 @@ abbrev Received : Type 0
 Received =
     -- in discovery the distribution asked; a new trial's first value is its dimension's, whatever is asked; past the last the
     -- distribution asked again
-    (served_for blank loom (turn 7) ≡ Some float)
+    (served_for blank begun (asks_float 7) ≡ Some float)
     × (served_for blank discovered.sampler (count 8) ≡ Some float)
     × (served_for noted opened.sampler (count 8) ≡ Some number)
     × (served_for noted opened.sampler (closes 8) ≡ None)
     -- so trial 8 receives a float where an int was asked: low itself, and one word is drawn for it
     × (opened.answer ≡ told (ParamValue.Float (of_bits binary64 0x3f1a36e2eb1c432d)) 1)
     -- noted is the new trial alone, and for good
-    × (noted_of blank loom (turn 7) 7 ≡ [])
+    × (noted_of blank begun (asks_float 7) 7 ≡ [])
     × (noted 8 ≡ float ∷ [])
     × (noted 7 ≡ [])
     × (noted_then 8 ≡ float ∷ [])

@@ -37,8 +37,8 @@ abbrev pub next_noted : List Distribution → Option Place → Option Distributi
 next_noted ds (Some p) = slice_get ds p.next_dim
 next_noted ds None = None
 
--- a new trial answers its first dimension's value, a trial with a stored value that one, whatever is asked: "Stored
--- values .. are returned whatever is asked"; in discovery and past the last the asked distribution is drawn from
+-- a new trial is answered its first dimension's value, and a trial with values left its next stored one, whatever is
+-- asked; in discovery, and "past the last, one random draw each", it is the distribution asked
 unfoldable pub served_for : Noted → Sampler → Call → Option Distribution
 unfolding new_trial
 served_for m s (asks d trial h) =
