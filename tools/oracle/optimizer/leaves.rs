@@ -2,7 +2,7 @@
 
 use crate::distribution::Distribution;
 use crate::param::ParamValue;
-use crate::sampler::common;
+use crate::sampler::{common, unclamped};
 
 pub use crate::sampler::gp::lent::{
     Model, build_training_data, establish_param_mapping, expected_improvement, fit_gp,
@@ -23,4 +23,9 @@ pub fn to_internal(value: &ParamValue, distribution: &Distribution) -> f64 {
 
 pub fn sample_random(rng: &mut fastrand::Rng, distribution: &Distribution) -> ParamValue {
     common::sample_random(rng, distribution)
+}
+
+/// As the Rust has it, without the clamp that `prepare` adds.
+pub fn sample_random_unclamped(rng: &mut fastrand::Rng, distribution: &Distribution) -> ParamValue {
+    unclamped::sample_random(rng, distribution)
 }

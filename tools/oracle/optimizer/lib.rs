@@ -1,4 +1,4 @@
-//! The modules of the unchanged Rust that the oracle runs. `prepare` puts them beside this file.
+//! The modules of the Rust that the oracle runs, unchanged but for one clamp. `prepare` puts them beside this file.
 
 pub mod distribution;
 pub mod leaves;

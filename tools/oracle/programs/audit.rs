@@ -1,5 +1,5 @@
 //! `audit`: reads a text of `propose` and writes every point that was drawn for a new trial with a
-//! model, with its expected improvement, by the unchanged Rust.
+//! model, with its expected improvement, by the Rust.
 
 use fastrand::Rng;
 use history::History;

@@ -1,4 +1,4 @@
-//! `leaf`: answers lines of leaf calls with the stand-ins of document 01 and the unchanged Rust.
+//! `leaf`: answers lines of leaf calls with the stand-ins of document 01 and the Rust.
 
 use arithmetic::generator::{self, Draw};
 use arithmetic::{OUT_OF_DOMAIN, Refusal, float};

@@ -1,4 +1,4 @@
-//! `propose`: answers standard input, a text of three tables, with the unchanged Rust.
+//! `propose`: answers standard input, a text of three tables, with the Rust.
 
 use std::io::{self, Read, Write};
 

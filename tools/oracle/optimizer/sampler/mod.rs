@@ -2,6 +2,7 @@
 
 pub(crate) mod common;
 pub mod gp;
+pub(crate) mod unclamped;
 
 use std::collections::HashMap;
 

@@ -1,5 +1,5 @@
 //! `gen NAME COUNT SEED [--from N] [--skip-edges] [--unreadable PERCENT]`: writes lines of leaf calls.
-//! `gen --names`: writes the names of the leaves.
+//! `gen --names`: writes the names of the leaves. `gen --edge-count NAME`: writes how many edges it has.
 //! `gen --searches ROWS COLUMNS CANDIDATES COUNT`: writes searches to be timed.
 //! `gen --pairs COUNT SEED [--from N]`: writes pairs of lines of `run` with equal answers.
 //! `gen --texts COUNT SEED [--from N]`: writes texts of `propose`, edges first, as `frames` has them,
@@ -11,6 +11,7 @@
 
 mod agreeing;
 mod cases;
+mod clamped;
 mod damages;
 mod distribution_limits;
 mod distributions;
@@ -121,7 +122,7 @@ struct Options {
 
 fn parse_options(mut arguments: impl Iterator<Item = String>) -> Option<Options> {
     let asked = arguments.next()?;
-    let (name, calls) = LEAVES.iter().find(|(name, _)| *name == asked)?;
+    let (name, calls) = leaf(&asked)?;
     let mut options = Options {
         name,
         calls,
@@ -140,6 +141,10 @@ fn parse_options(mut arguments: impl Iterator<Item = String>) -> Option<Options>
         }
     }
     Some(options)
+}
+
+fn leaf(asked: &str) -> Option<&'static (&'static str, Calls)> {
+    LEAVES.iter().find(|(name, _)| *name == asked)
 }
 
 fn parse_number(argument: Option<String>) -> Option<u64> {
@@ -241,10 +246,17 @@ fn write_names() -> io::Result<()> {
     LEAVES.iter().try_for_each(|(name, _)| writeln!(io::stdout(), "{name}"))
 }
 
+/// None for an unknown name.
+fn write_edge_count(mut arguments: impl Iterator<Item = String>) -> Option<io::Result<()>> {
+    let (_, calls) = leaf(&arguments.next()?)?;
+    Some(writeln!(io::stdout(), "{}", calls.edges().len()))
+}
+
 fn main() -> io::Result<()> {
     let arguments = std::env::args().skip(1);
     let written = match std::env::args().nth(1).as_deref() {
         Some("--names") => Some(write_names()),
+        Some("--edge-count") => write_edge_count(arguments.skip(1)),
         Some("--searches") => write_searches(arguments.skip(1)),
         Some("--pairs") => write_pairs(arguments.skip(1)),
         Some("--texts") => write_texts(arguments.skip(1)),
@@ -253,7 +265,8 @@ fn main() -> io::Result<()> {
     };
     written.unwrap_or_else(|| {
         eprintln!("usage: gen NAME COUNT SEED [--from N] [--skip-edges] [--unreadable PERCENT]");
-        eprintln!("   or: gen --names, gen --searches ROWS COLUMNS CANDIDATES COUNT");
+        eprintln!("   or: gen --names, gen --edge-count NAME");
+        eprintln!("   or: gen --searches ROWS COLUMNS CANDIDATES COUNT");
         eprintln!("   or: gen --pairs COUNT SEED [--from N], gen --texts COUNT SEED [--from N]");
         eprintln!("   or: gen --stored-texts");
         std::process::exit(2);

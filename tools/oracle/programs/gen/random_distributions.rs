@@ -67,7 +67,7 @@ fn random_float(rng: &mut SplitMix64) -> DistributionWords {
 }
 
 /// Any two, or the same, or two that are on both sides of 0 or close together.
-fn random_float_ends(rng: &mut SplitMix64) -> (f64, f64) {
+pub fn random_float_ends(rng: &mut SplitMix64) -> (f64, f64) {
     let first = random_end(rng);
     let second = match rng.below(8) {
         0 => first,

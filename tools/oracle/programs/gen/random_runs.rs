@@ -1,6 +1,7 @@
 //! Random lists of calls on a sampler: mostly short, with few trials and histories that fit.
 
 use crate::cases::{ABSENT, Parameter, Row, full_row};
+use crate::clamped;
 use crate::distributions::{choice, float, int};
 use crate::equal::with_other_zeros;
 use crate::floats::signed_with_exponent;
@@ -254,6 +255,7 @@ fn distribution(rng: &mut SplitMix64) -> DistributionWords {
         6 => int(1, 1000, true, None),
         7 => int(10, 20, false, Some(4)),
         8 => choice(5),
+        9 => clamped::distribution(rng),
         _ => random_distributions::well_formed(rng),
     }
 }
@@ -279,7 +281,8 @@ fn settings(rng: &mut SplitMix64, slots: u64, rows: u64) -> Settings {
         _ => rng.below(9),
     };
     let noise = random_noise(rng).to_bits();
-    let good = Settings { startup, candidates, noise, seed: rng.next_word().max(1), slots };
+    let seed = clamped::seed(rng.next_word().max(1));
+    let good = Settings { startup, candidates, noise, seed, slots };
     if rng.below(64) == 0 { odd_settings(rng, good) } else { good }
 }
 

@@ -1,6 +1,7 @@
 //! Random texts of `propose`, a third of them damaged.
 
 use crate::cases::{Parameter, Row, full_row};
+use crate::clamped;
 use crate::lists::reordered;
 use crate::random_distributions;
 use crate::random_runs::{self, parameters, random_noise};
@@ -80,7 +81,8 @@ fn settings(rng: &mut SplitMix64, slots: u64, rows: u64) -> Settings {
     };
     let candidates = if rng.below(32) == 0 { 1_000 } else { rng.below(50) };
     let noise = random_noise(rng).to_bits();
-    Settings { startup, candidates, noise, seed: rng.next_word().max(1), slots }
+    let seed = clamped::seed(rng.next_word().max(1));
+    Settings { startup, candidates, noise, seed, slots }
 }
 
 /// All dimensions, asked by the first trial.

@@ -1,9 +1,10 @@
 //! Inputs for `sample_random`: generator words that lead to the ends of what is drawn.
 
+use crate::clamped;
 use crate::distributions::{malformed, with_each_well_formed};
 use crate::draws::{state_before, word_edges, word_random};
 use crate::internal::{Grid, bounds, edge_grid_points, random_grid_point};
-use crate::lists::alternated;
+use crate::lists::{alternated, distinct};
 use crate::random_distributions;
 use records::{CHOICE, DistributionWords};
 use splitmix::SplitMix64;
@@ -20,7 +21,8 @@ pub fn edges() -> Vec<Vec<u64>> {
         with_each_well_formed(|_| word_edges().into_iter().step_by(9).map(|w| [w]).collect());
     let refused = malformed().into_iter().map(|d| ([1], d)).collect();
     let calls = alternated([units, remainders, halves, words, refused]);
-    calls.iter().map(|(w, d)| [w, &d[..]].concat()).collect()
+    let others = calls.iter().map(|(w, d)| [w, &d[..]].concat()).collect();
+    distinct([clamped::table_lines(), others].concat())
 }
 
 pub fn random(rng: &mut SplitMix64) -> Vec<u64> {
@@ -28,6 +30,7 @@ pub fn random(rng: &mut SplitMix64) -> Vec<u64> {
     let chosen = match rng.below(8) {
         0 => random_remainder(rng, &d),
         1 | 2 => random_half(rng, &d),
+        3 => return clamped::random(rng),
         _ => None,
     };
     let state = match chosen {
@@ -44,7 +47,7 @@ fn states(drawn: &[u64]) -> Vec<[u64; 1]> {
 }
 
 /// How many values a remainder chooses from; none where a unit float is drawn.
-fn width(words: &DistributionWords) -> Option<u64> {
+pub fn width(words: &DistributionWords) -> Option<u64> {
     if words[0] == CHOICE {
         return records::distribution(words).map(|_| words[1]);
     }

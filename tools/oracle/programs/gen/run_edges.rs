@@ -1,6 +1,7 @@
 //! Edges of `run`: settings, the phases, places and refused calls.
 
 use crate::cases::{Case, Parameter};
+use crate::clamped;
 use crate::damages;
 use crate::distributions::{choice, float, int, malformed};
 use crate::history_edges;
@@ -14,12 +15,13 @@ use run::{CLOSE, MAX_CANDIDATES, MAX_DIMENSIONS, MAX_NOISE, MAX_PLACES, MAX_STAR
 pub fn edges() -> Vec<Vec<u64>> {
     let limits = limits().into_iter().map(|runs| words(&runs));
     let limits: Vec<_> = limits.chain([unreadable()]).collect();
-    distinct([words(&freed_places()), alternated(limits), words(&histories())].concat())
+    let first = [clamped::table_runs(), freed_places()].map(|runs| words(&runs)).concat();
+    distinct([first, alternated(limits), words(&histories())].concat())
 }
 
 /// All that can be read.
 pub fn runs() -> Vec<Run> {
-    distinct([alternated(limits()), histories()].concat())
+    distinct([alternated(limits()), histories(), clamped::table_runs()].concat())
 }
 
 fn words(runs: &[Run]) -> Vec<Vec<u64>> {

@@ -1,6 +1,7 @@
 //! Edges of `propose`: texts of document 01's limits, malformed ones, and the edges of `run` as texts.
 
 use crate::cases::{Case, OBJECTIVE, STATE};
+use crate::clamped;
 use crate::damages;
 use crate::distributions::{choice, float, int};
 use crate::history_edges::with_random_words;
@@ -52,6 +53,7 @@ pub fn stored() -> Vec<Made> {
         few(about_the_limit(), 6),
         calls(),
         few(runs(), 110),
+        clamped_floats(),
     ];
     let damaged = [
         few(text_faults::in_lines(), 3 * FAULTS.len()),
@@ -211,6 +213,11 @@ fn calls() -> Vec<Text> {
             .ask(u64::MAX - 1, &choice(5))
             .ask(1, &malformed[1]),
     ]
+}
+
+/// The runs about the clamp of a random float.
+fn clamped_floats() -> Vec<Text> {
+    clamped::table_runs().iter().flat_map(of_run).collect()
 }
 
 /// The edges of `run`, with each of their histories.
