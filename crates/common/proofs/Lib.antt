@@ -1,3 +1,4 @@
+mod Cases
 pub mod Clamp
 pub mod Domain
 pub mod Facts
