@@ -1,4 +1,4 @@
-mod Cases
+mod RandomCases
 pub mod Clamp
 pub mod Domain
 pub mod Facts
