@@ -63,7 +63,7 @@ num⁻-le (inf s) = zero-le
 num⁻-le (fin true m e) = le_refl (m * up e)
 num⁻-le (fin false m e) = zero-le
 
-pub within-cross : (b x : Float) → T (bound b) → Within b x → num x * den b ≤ num b * den x
+within-cross : (b x : Float) → T (bound b) → Within b x → num x * den b ≤ num b * den x
 unfolding le
 within-cross (fin false n d) (fin s m e) B w = cross m e n d w
 within-cross nan _ B w = elim B [ ]
@@ -79,7 +79,7 @@ plain nan B = elim B [ ]
 plain (inf _) B = elim B [ ]
 plain (fin true m e) B = elim B [ ]
 
-pub bound-finite : (x : Float) → T (bound x) → T (finite x)
+bound-finite : (x : Float) → T (bound x) → T (finite x)
 bound-finite (fin false m e) B = tt
 bound-finite nan B = elim B [ ]
 bound-finite (inf _) B = elim B [ ]

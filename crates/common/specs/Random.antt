@@ -1,5 +1,5 @@
--- `sample_random` of common.rs: a random value for any distribution, one word each. "Every random float is now clamped to
--- low..high." Definitions only.
+-- `sample_random` of common.rs: a random value for any distribution, one word each. "Every random float is now clamped
+-- to low..high." Definitions only.
 use Rattle.refusal.specs.declared.Refusal.TheVariants.{OutOfDomain}
 use Rattle.refusal.specs.declared.Refusal.{Refusal}
 use Rattle.std.specs.Prelude.{ℕ, ◌-◌, cond, ℤ, pos, ◌+ℤ◌, ◌-ℤ◌, ◌*ℤ◌, nat_abs, Float, Result, Ok, Err, Some, None}
@@ -54,7 +54,7 @@ unclamped_random w d =
     cond d.log_scale (log_float_random w d)
     (option_map_or (stepped_float_random w d.low d.high) d.step (linear_float_random w d.low d.high))
 
--- the clamp of a decoding: an equal zero keeps its sign
+-- clamped as a decoding is; a zero equal to an end keeps its sign
 unfoldable pub float_random : ℕ → FloatDistribution → Result (Draw ParamValue) Refusal
 unfolding unclamped_random
 float_random w d = read_by (λ v. ParamValue.Float (clamp_of lt d.low d.high v)) (unclamped_random w d)

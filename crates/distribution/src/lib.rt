@@ -1,4 +1,4 @@
-// Distributions and values: the shape test, equality, the Taken rule, and the range. The names are the Rust's.
+// Distributions and values: the shape test, equality, the Taken rule. The names are the Rust's.
 #![tactic(auto)]
 
 ghost use Rattle.std.specs.Prelude.{◌≡◌};
@@ -12,9 +12,8 @@ pub mod shape;
 pub mod taken;
 
 pub use equality::equal;
-pub use range::in_range;
 pub use shape::well_formed;
-pub use taken::{float_taken, taken_rule, taken_value, value_of_word};
+pub use taken::{taken_rule, taken_value, value_of_word};
 
 // A parameter of floats or of integers, with a step where it has one.
 #[derive(Clone, Copy, PartialEq)]

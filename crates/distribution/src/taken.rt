@@ -9,7 +9,7 @@ use crate::{Distribution, ParamValue};
 use refusal::Refusal;
 
 // Whether a float may be the value of a float's distribution of that scale.
-pub fn float_taken(log_scale: bool, x: f64) -> bool
+fn float_taken(log_scale: bool, x: f64) -> bool
     ensures { result ≡ float_taken log_scale x }
 {
     ranged(

@@ -30,7 +30,7 @@ use Rattle.proposal.specs.Proposal.{candidate_of, compute_candidate_of}
 use Rattle.proposal.specs.Values.{step_of, walk_of}
 use Rattle.sampler_laws.specs.declared.Sampled.{Sampled}
 use Rattle.sampler_state.specs.declared.Sampler.{Sampler}
-use Rattle.sampler_laws.specs.Calls.{discover_of, serving_of, active_of, served_of, sample_of}
+use Rattle.sampler_laws.specs.Calls.{discover_of, serving_of, active_of, served_of, sample_of, close_of}
 use Rattle.sampler_laws.specs.NewTrials.{new_trial}
 use Rattle.sampler_laws.specs.Received.{Noted, noted_of, served_for}
 use Rattle.sampler_laws.specs.Runs.{Asked, Call, asks, closes, call_of}
@@ -72,6 +72,10 @@ noted = noted_of blank discovered.sampler (count 8)
 abbrev noted_then : Noted
 noted_then = noted_of noted opened.sampler (count 8)
 
+-- a call whose six words are no distribution
+abbrev malformed : Call
+malformed = asks (record { kind = 4; low = 0; high = 0; log = 0; stepped = 0; step = 0 }) 9 []
+
 -- of each trial other distributions than the dimensions'
 abbrev other : Noted
 other = λ t. number ∷ float ∷ []
@@ -86,16 +90,20 @@ Received =
     × (served_for noted opened.sampler (closes 8) ≡ None)
     -- so trial 8 receives a float where an int was asked: low itself, and one word is drawn for it
     × (opened.answer ≡ told (ParamValue.Float (of_bits binary64 0x3f1a36e2eb1c432d)) 1)
-    -- noted is the new trial alone, and for good
+    -- noted is a new trial alone: none in discovery, no other trial, none at a refused call or a close
     × (noted_of blank discovered.sampler (count 7) 7 ≡ [])
     × (noted 8 ≡ float ∷ [])
     × (noted 7 ≡ [])
     × (noted_then 8 ≡ float ∷ [])
-    -- trial 8 of a run of a choice and an int asks the choice, and its second value is stored: what is noted second, whatever
-    -- the dimensions are, and it is not noted again
+    × (noted_of blank opened.sampler malformed 9 ≡ [])
+    × (noted_of other opened.sampler (count 9) 8 ≡ number ∷ float ∷ [])
+    × (noted_of other opened.sampler (closes 8) 8 ≡ number ∷ float ∷ [])
+    -- a trial closed and opened again is noted again
+    × (noted_of other (close_of opened.sampler 8).sampler (count 8) 8 ≡ float ∷ [])
+    -- in the run of Cases.antt the second value of trial 8 is stored: it is of what is noted second, not of the dimensions
     × (served_for other third.sampler (choose 8) ≡ Some float)
     × (noted_of other third.sampler (choose 8) 8 ≡ number ∷ float ∷ [])
 
 received : Received
-unfolding served_for new_trial sample_of discover_of serving_of active_of served_of trial_place free_place spot_for place_ok trials_once sampler_ok settings_ok candidate_of compute_candidate_of step_of walk_of view_of training_of recent_training asked_of dimension_ok dimensions_ok columns_of whole_rows row_count recent_count recent_of recent_tests check_of bounds_of ends_of exp_of scaled_of reduced_of horner_of whole_power ln_of halved_of series_of series normal field digits mantissa_of exponent_of nearest_of round_of sample_random_of random_of float_random unclamped_random log_float_random float_grid int_random linear_int_random categorical_random shape_of float_shape int_shape int_step categorical_shape read_of checked_of word_draw_of unit_draw_of unit_of whole_draw_of whole_of range_ok step every grown place_of places_of of_bits to_bits of_int round add sub mul div neg le lt eq is_nan
-received = (refl, refl, refl, refl, refl, refl, refl, refl, refl, refl, refl)
+unfolding served_for new_trial sample_of close_of discover_of serving_of active_of served_of trial_place free_place spot_for place_ok trials_once sampler_ok settings_ok candidate_of compute_candidate_of step_of walk_of view_of training_of recent_training asked_of dimension_ok dimensions_ok columns_of whole_rows row_count recent_count recent_of recent_tests check_of bounds_of ends_of exp_of scaled_of reduced_of horner_of whole_power ln_of halved_of series_of series normal field digits mantissa_of exponent_of nearest_of round_of sample_random_of random_of float_random unclamped_random log_float_random float_grid int_random linear_int_random categorical_random shape_of float_shape int_shape int_step categorical_shape read_of checked_of word_draw_of unit_draw_of unit_of whole_draw_of whole_of range_ok step every grown place_of places_of of_bits to_bits of_int round add sub mul div neg le lt eq is_nan
+received = (refl, refl, refl, refl, refl, refl, refl, refl, refl, refl, refl, refl, refl, refl, refl)

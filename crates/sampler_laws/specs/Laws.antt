@@ -109,7 +109,8 @@ pub record NothingRefused : Type 0 where
   -- a new trial's values are made and in range: no decoding and no draw is refused, nor an exp or ln in it
   pub values : (s : Sampler) (h : List ℕ) → Typed s → T (sampler_ok s) → check_of s.settings.slots h ≡ Ok tt
       → (c : Draw (List ParamValue)) × (compute_candidate_of s.settings s.dimensions.list s.dimensions.count s.word (served_history s h) ≡ Ok c)
-      × ((j : ℕ) → j < s.dimensions.count → T (in_range (dimension_at s.dimensions.list j).distribution (get_or c.value j empty_value)))
+      × ((j : ℕ) → j < s.dimensions.count
+      → T (in_range (dimension_at s.dimensions.list j).distribution (get_or c.value j empty_value)))
   -- nor is any other draw
   pub random : (s : Sampler) (d : Distribution) → Held d → T (shape_of d) → Typed s → T (sampler_ok s)
       → (r : Draw ParamValue) × (sample_random_of s.word d ≡ Ok r) × T (in_range d r.value)

@@ -1,4 +1,5 @@
--- "Every float that weavers receive then lies between low and high of the distribution it was drawn or decoded for."
+-- "From a fresh sampler, every float that weavers receive then lies between low and high of the distribution it was drawn
+-- or decoded for."
 -- Which distribution that is, is told along a run, and never by the value. Definitions and statements only.
 use Rattle.std.specs.Prelude.{ℕ, ◌^◌, ◌<◌, ◌≡◌, ◌&&◌, cond, List, [], ◌∷◌, T, eqb, slice_get, Float, Option, Some, None, Ok}
 use Rattle.std.specs.Float.Ieee.{le}
@@ -7,9 +8,11 @@ use Rattle.distribution.specs.Numbers.{FloatDistribution}
 use Rattle.distribution.specs.declared.Distribution.{Distribution}
 use Rattle.distribution.specs.declared.ParamValue.{ParamValue}
 use Rattle.distribution.specs.Range.{in_range}
+use Rattle.common.specs.Decode.{from_internal_of}
 use Rattle.dimensions.specs.Dimensions.{dimension_at}
 use Rattle.settings.specs.declared.Settings.{Settings}
 use Rattle.settings.specs.Settings.{settings_ok}
+use Rattle.proposal.specs.Values.{DrawnFrom}
 use Rattle.sampler_state.specs.declared.Place.{Place}
 use Rattle.sampler_state.specs.declared.Sampler.{Sampler}
 use Rattle.sampler_state.specs.State.{fresh_of, held_by, stored_at, sampler_ok}
@@ -27,7 +30,7 @@ Noted = ℕ → List Distribution
 abbrev pub in_force : Sampler → List Distribution
 in_force s = list_of (λ j. (dimension_at s.dimensions.list j).distribution) s.dimensions.count
 
--- a new trial is noted with them, for good
+-- a new trial is noted with them, until it is new again
 abbrev pub noted_of : Noted → Sampler → Call → Noted
 noted_of m s (asks d trial h) = λ t. cond (new_trial s (asks d trial h) && eqb t trial) (in_force s) (m t)
 noted_of m s (closes trial) = m
@@ -46,16 +49,28 @@ served_for m s (asks d trial h) =
     (cond (stored_next s trial) (next_noted (m trial) (held_by s.places trial)) (read_asked d))
 served_for m s (closes trial) = None
 
--- ---- in its range
+-- ---- what holds of a value and its distribution
 
--- an answered value is in range of it
-pub record ReceivedFor (m : Noted) (s : Sampler) (c : Call) (v : ParamValue) : Type 0 where
+abbrev pub Holding : Type 1
+Holding = Distribution → ParamValue → Type 0
+
+abbrev pub InRange : Holding
+InRange d v = T (in_range d v)
+
+-- "the distribution it was drawn or decoded for": a draw from it at some generator word, or a decoding under it of some
+-- number
+pub data MadeFor (d : Distribution) (v : ParamValue) : Type 0 where
+  drawn : (w : ℕ) → DrawnFrom w d v → MadeFor d v
+  decoded : (x : Float) → from_internal_of x d ≡ Ok v → MadeFor d v
+
+-- P holds of an answered value and the distribution that it is served for
+pub record ReceivedFor (P : Holding) (m : Noted) (s : Sampler) (c : Call) (v : ParamValue) : Type 0 where
   pub distribution : Distribution
   pub served : served_for m s c ≡ Some distribution
-  pub in_range : T (in_range distribution v)
+  pub holds : P distribution v
 
-abbrev pub InRange : Noted → Sampler → Call → Type 0
-InRange m s c = (a : Answer) → (call_of s c).answer ≡ Ok a → (v : ParamValue) → a.value ≡ Some v → ReceivedFor m s c v
+abbrev pub Receives : Holding → Noted → Sampler → Call → Type 0
+Receives P m s c = (a : Answer) → (call_of s c).answer ≡ Ok a → (v : ParamValue) → a.value ≡ Some v → ReceivedFor P m s c v
 
 -- an answered float lies between its low and high
 pub record FloatReceived (m : Noted) (s : Sampler) (c : Call) (v : Float) : Type 0 where
@@ -76,26 +91,33 @@ AlongNoted P m s (c ∷ cs) = P m s c × AlongNoted P (noted_of m s c) (call_of 
 
 -- ---- what is noted for the values that are stored
 
--- value j of a place is in range of the distribution noted for it
-pub record NotedFor (ds : List Distribution) (p : Place) (j : ℕ) : Type 0 where
+-- P holds of value j of a place and the distribution noted for it
+pub record NotedFor (P : Holding) (ds : List Distribution) (p : Place) (j : ℕ) : Type 0 where
   pub distribution : Distribution
   pub noted : slice_get ds j ≡ Some distribution
-  pub in_range : T (in_range distribution (stored_at p j))
+  pub holds : P distribution (stored_at p j)
 
-abbrev pub Kept : Noted → Sampler → Type 0
-Kept m s =
+abbrev pub Kept : Holding → Noted → Sampler → Type 0
+Kept P m s =
     (trial : ℕ) (p : Place) → held_by s.places trial ≡ Some p
-    → (j : ℕ) → j < s.dimensions.count → NotedFor (m trial) p j
+    → (j : ℕ) → j < s.dimensions.count → NotedFor P (m trial) p j
+
+-- ---- the law
+
+-- along every run: "From a fresh sampler", whatever was noted before
+abbrev pub AlongRuns : (Noted → Sampler → Call → Type 0) → Type 0
+AlongRuns P =
+    (m : Noted) (s : Settings) → s.seed < 2 ^ 64 → T (settings_ok s) → (cs : List Call) → AlongNoted P m (fresh_of s) cs
 
 pub record Received : Type 0 where
   -- at every call on a well-formed sampler, whose values are in range of what is noted for them
-  pub call : (m : Noted) (s : Sampler) (c : Call) → Typed s → T (sampler_ok s) → Kept m s
-      → InRange m s c × Kept (noted_of m s c) (call_of s c).sampler
-  -- along every run: "From a fresh sampler", whatever was noted before
-  pub run : (m : Noted) (s : Settings) → s.seed < 2 ^ 64 → T (settings_ok s) → (cs : List Call)
-      → AlongNoted InRange m (fresh_of s) cs
-  pub floats : (m : Noted) (s : Settings) → s.seed < 2 ^ 64 → T (settings_ok s) → (cs : List Call)
-      → AlongNoted FloatBetween m (fresh_of s) cs
-  -- and from every well-formed sampler, each of whose trials is noted with its dimensions
+  pub call : (m : Noted) (s : Sampler) (c : Call) → Typed s → T (sampler_ok s) → Kept InRange m s
+      → Receives InRange m s c × Kept InRange (noted_of m s c) (call_of s c).sampler
+  -- the value answered is in range of the distribution that it is served for, is drawn or decoded for it, and a float lies
+  -- between its low and high
+  pub run : AlongRuns (Receives InRange)
+  pub made : AlongRuns (Receives MadeFor)
+  pub floats : AlongRuns FloatBetween
+  -- in range also from every well-formed sampler, each of whose trials is noted with its dimensions
   pub handed_in : (s : Sampler) → Typed s → T (sampler_ok s) → (cs : List Call)
-      → Kept (λ t. in_force s) s × AlongNoted InRange (λ t. in_force s) s cs
+      → Kept InRange (λ t. in_force s) s × AlongNoted (Receives InRange) (λ t. in_force s) s cs

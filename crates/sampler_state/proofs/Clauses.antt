@@ -148,19 +148,21 @@ Clauses =
     × (storing (half ∷ ParamValue.Int (pos 9) ∷ ParamValue.Categorical 0 ∷ []) ≡ true)
     × (storing (half ∷ ParamValue.Int (pos 10) ∷ ParamValue.Categorical 0 ∷ []) ≡ false)
     × (storing (half ∷ ParamValue.Int (pos 2) ∷ ParamValue.Categorical 5 ∷ []) ≡ false)
-    -- a float from low to high, both ends with it and -0 at +0, and no NaN
+    -- a float from low to high, both ends with it and -0 at +0; no infinity and no NaN
     × (in_unit 0 ≡ true)
     × (in_unit 0x8000000000000000 ≡ true)
     × (in_unit 0x8000000000000001 ≡ false)
     × (in_unit 0x3ff0000000000000 ≡ true)
     × (in_unit 0x3ff0000000000001 ≡ false)
+    × (in_unit 0x7ff0000000000000 ≡ false)
     × (in_unit 0x7ff8000000000000 ≡ false)
     -- and so on log scale, and with a step, where it may lie off the grid
     × (in_decade 0x4024000000000000 ≡ true)
     × (in_decade 0x4023ffffffffffff ≡ false)
-    × (in_decade 0x4059000000000003 ≡ false)
+    × (in_decade 0x4059000000000001 ≡ false)
     × (in_hundredths 0x3fd6666666666666 ≡ true)
     × (in_hundredths 0x3fd6666666666667 ≡ false)
+    × (in_hundredths 0x8000000000000001 ≡ false)
     × (in_hundredths 0x3f747ae147ae147b ≡ true)
     -- a value is of its dimension's kind; past the last dimension it may be any
     × (storing (ParamValue.Int (pos 0) ∷ ParamValue.Int (pos 7) ∷ ParamValue.Categorical 4 ∷ []) ≡ false)
@@ -176,4 +178,4 @@ Clauses =
 
 clauses : Clauses
 unfolding sampler_ok settings_ok place_ok trials_once dimension_ok dimensions_ok every bounds_of ends_of shape_of float_shape float_step int_shape int_step categorical_shape of_bits to_bits of_int add sub mul div le lt eq neg floor_of
-clauses = (refl, refl, refl, refl, refl, refl, refl, refl, refl, refl, refl, refl, refl, refl, refl, refl, refl, refl, refl, refl, refl, refl, refl, refl, refl, refl, refl, refl, refl, refl, refl, refl, refl, refl, refl, refl, refl, refl, refl, refl, refl, refl, refl, refl, refl, refl, refl)
+clauses = (refl, refl, refl, refl, refl, refl, refl, refl, refl, refl, refl, refl, refl, refl, refl, refl, refl, refl, refl, refl, refl, refl, refl, refl, refl, refl, refl, refl, refl, refl, refl, refl, refl, refl, refl, refl, refl, refl, refl, refl, refl, refl, refl, refl, refl, refl, refl, refl, refl)

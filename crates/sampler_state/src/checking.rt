@@ -1,6 +1,5 @@
 // Whether a sampler is well-formed.
 ghost use Rattle.std.specs.Prelude.{◌≡◌, not, ◌&&◌, ◌||◌, ◌≤◌, eqb, leb, length, take};
-ghost use Rattle.std.specs.Int.Signed.{le_z};
 ghost use Rattle.std.specs.List.{list_all, zip};
 ghost use Rattle.settings.specs.Settings.{settings_ok};
 ghost use Rattle.sampler_state.specs.State.{same_trial, trials_once};
@@ -9,7 +8,19 @@ ghost use Rattle.sampler_state.specs.State.{progress_ok, place_ok, sampler_ok};
 
 use crate::{Place, Sampler, places};
 use dimensions::{DimensionInfo, Dimensions};
-use distribution::{Distribution, IntDistribution, ParamValue};
+use distribution::{Distribution, ParamValue};
+
+// Whether a value is one that a place stores for the distribution: in its range.
+fn value_ok(d: Distribution, value: ParamValue) -> bool
+    ensures { result ≡ in_range d value }
+{
+    match (d, value) {
+        (Distribution::Float(f), ParamValue::Float(x)) => f.low <= x && x <= f.high,
+        (Distribution::Int(i), ParamValue::Int(z)) => i.low <= z && z <= i.high,
+        (Distribution::Categorical(c), ParamValue::Categorical(k)) => k < c.n_choices,
+        _ => false,
+    }
+}
 
 // What places are judged by: whether the sampler is active, and its dimensions.
 #[derive(Drop)]
@@ -24,7 +35,7 @@ impl Judge<'_> {
     fn values_ok(&self, values: &[ParamValue; 20]) -> bool
         ensures { result ≡ list_all (λ p. in_range p.0.distribution p.1) (zip self.now.dimensions.now values.now) }
     {
-        self.dimensions.iter().zip(values).all(|(dimension, value)| distribution::in_range(
+        self.dimensions.iter().zip(values).all(|(dimension, value)| value_ok(
             dimension.distribution,
             *value,
         ))
