@@ -1,5 +1,5 @@
--- "From a fresh sampler, every float that weavers receive then lies between low and high of the distribution it was drawn
--- or decoded for."
+-- "From a fresh sampler, every float that weavers receive then lies between low and high of the distribution it was
+-- drawn or decoded for."
 -- Which distribution that is, is told along a run, and never by the value. Definitions and statements only.
 use Rattle.std.specs.Prelude.{ℕ, ◌^◌, ◌<◌, ◌≡◌, ◌&&◌, cond, List, [], ◌∷◌, T, eqb, slice_get, Float, Option, Some, None, Ok}
 use Rattle.std.specs.Float.Ieee.{le}
@@ -70,7 +70,9 @@ pub record ReceivedFor (P : Holding) (m : Noted) (s : Sampler) (c : Call) (v : P
   pub holds : P distribution v
 
 abbrev pub Receives : Holding → Noted → Sampler → Call → Type 0
-Receives P m s c = (a : Answer) → (call_of s c).answer ≡ Ok a → (v : ParamValue) → a.value ≡ Some v → ReceivedFor P m s c v
+Receives P m s c =
+    (a : Answer) → (call_of s c).answer ≡ Ok a
+    → (v : ParamValue) → a.value ≡ Some v → ReceivedFor P m s c v
 
 -- an answered float lies between its low and high
 pub record FloatReceived (m : Noted) (s : Sampler) (c : Call) (v : Float) : Type 0 where
@@ -113,8 +115,8 @@ pub record Received : Type 0 where
   -- at every call on a well-formed sampler, whose values are in range of what is noted for them
   pub call : (m : Noted) (s : Sampler) (c : Call) → Typed s → T (sampler_ok s) → Kept InRange m s
       → Receives InRange m s c × Kept InRange (noted_of m s c) (call_of s c).sampler
-  -- the value answered is in range of the distribution that it is served for, is drawn or decoded for it, and a float lies
-  -- between its low and high
+  -- the value answered is in range of the distribution that it is served for, is drawn or decoded for it, and a float
+  -- lies between its low and high
   pub run : AlongRuns (Receives InRange)
   pub made : AlongRuns (Receives MadeFor)
   pub floats : AlongRuns FloatBetween

@@ -43,8 +43,8 @@ pub fn places_counted()
     ensures { PlacesCounted }
 {}
 
-// Along every run, each value that a call answers is drawn from or decoded for the distribution that it is served for, and
-// in its range: a float lies between that distribution's low and high.
+// Along every run, each value that a call answers is drawn from or decoded for the distribution that it is served for,
+// and in its range: a float lies between that distribution's low and high.
 #[tactic(auto, using(crate::proofs::Received::received))]
 pub fn received()
     ensures { Received }
