@@ -1,7 +1,9 @@
 // A random value for any distribution, one word each.
 ghost use Rattle.std.specs.Prelude.{◌≡◌, T, ◌≤◌};
 ghost use Rattle.distribution.specs.Shape.{int_shape, shape_of};
-ghost use Rattle.common.specs.Random.{range_of, log_range, log_float_random, stepped_float_random, linear_float_random, unclamped_random, float_random, log_int_random, stepped_int_random, linear_int_random, int_random, categorical_random, random_of, sample_random_of};
+ghost use Rattle.common.specs.Random.{range_of, log_range, log_float_random, stepped_float_random, linear_float_random};
+ghost use Rattle.common.specs.Random.{unclamped_random, float_random, log_int_random, stepped_int_random};
+ghost use Rattle.common.specs.Random.{linear_int_random, int_random, categorical_random, random_of, sample_random_of};
 ghost use Rattle.common.specs.RandomParts.{LogFits, Stepped};
 
 use crate::decode::int_decoded;

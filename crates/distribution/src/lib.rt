@@ -1,4 +1,4 @@
-// Distributions and values: the shape test, equality, the Taken rule. The names are the Rust's.
+// Distributions and values: the shape test, equality, and the Taken rule. The names are the Rust's.
 #![tactic(auto)]
 
 ghost use Rattle.std.specs.Prelude.{◌≡◌};

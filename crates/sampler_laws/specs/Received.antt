@@ -1,7 +1,8 @@
 -- "From a fresh sampler, every float that weavers receive then lies between low and high of the distribution it was
 -- drawn or decoded for."
 -- Which distribution that is, is told along a run, and never by the value. Definitions and statements only.
-use Rattle.std.specs.Prelude.{ℕ, ◌^◌, ◌<◌, ◌≡◌, ◌&&◌, cond, List, [], ◌∷◌, T, eqb, slice_get, Float, Option, Some, None, Ok}
+use Rattle.std.specs.Prelude.{ℕ, ◌^◌, ◌<◌, ◌≡◌, ◌&&◌, cond, List, [], ◌∷◌, T, eqb, slice_get, Float}
+use Rattle.std.specs.Prelude.{Option, Some, None, Ok}
 use Rattle.std.specs.Float.Ieee.{le}
 use Rattle.arith.specs.Lists.{list_of}
 use Rattle.distribution.specs.Numbers.{FloatDistribution}

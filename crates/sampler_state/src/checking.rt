@@ -2,9 +2,8 @@
 ghost use Rattle.std.specs.Prelude.{◌≡◌, not, ◌&&◌, ◌||◌, ◌≤◌, eqb, leb, length, take};
 ghost use Rattle.std.specs.List.{list_all, zip};
 ghost use Rattle.settings.specs.Settings.{settings_ok};
-ghost use Rattle.sampler_state.specs.State.{same_trial, trials_once};
 ghost use Rattle.distribution.specs.Range.{in_range};
-ghost use Rattle.sampler_state.specs.State.{progress_ok, place_ok, sampler_ok};
+ghost use Rattle.sampler_state.specs.State.{same_trial, trials_once, progress_ok, place_ok, sampler_ok};
 
 use crate::{Place, Sampler, places};
 use dimensions::{DimensionInfo, Dimensions};
