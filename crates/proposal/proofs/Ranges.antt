@@ -105,7 +105,7 @@ unfolding of_bits of_int le
 half-coordinate = (tt, tt)
 
 -- each word of a stream has 64 bits
-stream-small : (n w i : ℕ) → Nonzero w → get_or (stream_of n w) i 0 < 2 ^ 64
+pub stream-small : (n w i : ℕ) → Nonzero w → get_or (stream_of n w) i 0 < 2 ^ 64
 unfolding stream_of
 stream-small zero w i h = omega arith
 stream-small (suc n) w zero h = (next-nonzero w h).1

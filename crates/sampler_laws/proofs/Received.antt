@@ -2,15 +2,16 @@
 use Rattle.std.specs.Prelude.{Option, Some, Result, Ok, Err, is_ok}
 use Rattle.std.proofs.lemmas.Option.{slice_get_read}
 use Rattle.std.proofs.Math.Bool.{and-false}
-use Prim.Native.Nat.{ℕ, ◌≤◌, ◌<◌}
+use Prim.Native.Nat.{ℕ, ◌+◌, ◌*◌, ◌^◌, ◌≤◌, ◌<◌}
 use native.Mathlib.Nat.{not-suc-le-zero, eq-zero-or-pos}
 use native.Mathlib.Omega.{arith}
 use mathlib.Core.Path.{◌≡◌, refl, sym, ap, ◌∙◌, subst}
 use mathlib.Core.Bool.{Bool, true, false, ◌&&◌}
 use mathlib.Core.List.{List, [], ◌∷◌}
 use mathlib.Core.Logic.{inl, inr}
-use lib.Dec.{T, T_not, eqb, leb→le}
-use lib.Ieee.{Float, le}
+use lib.Dec.{T, T_not, eqb, leb→le, lit<}
+use lib.ListN.{get_or, get_or-replicate}
+use lib.Ieee.{Float, nan, binary64, of_bits, of_int, div, le}
 use lib.Ieee.Bits.{is_true}
 use lib.Ieee.Fits.{and_l, and_r}
 use borrow.Author.Tests.{eq-eqb, ne_eqb, lt-ltb, le-ltb}
@@ -28,19 +29,23 @@ use Rattle.dimensions.specs.declared.DimensionInfo.{DimensionInfo}
 use Rattle.dimensions.specs.declared.Dimensions.{Dimensions}
 use Rattle.dimensions.specs.Dimensions.{dimension_at}
 use Rattle.gp_model.specs.declared.Model.{Model}
-use Rattle.proposal.specs.Values.{DrawnFrom}
+use Rattle.proposal.specs.Values.{DrawnFrom, decode_of}
+use Rattle.proposal.proofs.Ranges.{column-below, stream-small}
+use Rattle.rng_util.specs.Draws.{unit_of}
+use Rattle.rng_util.specs.Generator.{moved_of, stream_of}
+use Rattle.rng_util.proofs.Nonzero.{Nonzero, moved-nonzero}
 use Rattle.sampler_state.specs.declared.Place.{Place}
 use Rattle.sampler_state.specs.declared.Sampler.{Sampler}
 use Rattle.sampler_state.specs.State.{fresh_of, trial_place, held_by, stored_at, progress_ok, sampler_ok}
 use Rattle.sampler_laws.specs.declared.Answer.{Answer}
 use Rattle.sampler_laws.specs.Laws.{Typed, stored_next}
-use Rattle.sampler_laws.specs.NewTrials.{past_discovery, new_trial as is_new, fit_made, fit_answer, has_model, Stores, StoresRandom}
+use Rattle.sampler_laws.specs.NewTrials.{past_discovery, new_trial as is_new, fit_made, fit_answer, has_model, continuous, columns_before, point_drawn, StoresRandom}
 use Rattle.sampler_laws.specs.Received.{Noted, in_force, noted_of, next_noted, served_for, Holding, InRange, MadeFor, drawn, decoded, ReceivedFor, Receives, FloatReceived, FloatBetween, AlongNoted, NotedFor, Kept, AlongRuns, Received}
 use Rattle.sampler_laws.specs.Runs.{Asked, asks, closes, Call, call_of}
 use Rattle.sampler_laws.specs.Served.{AnswersDraw, OthersKept, PastDiscovery, SampleServed, in_discovery, new_trial, next_value, past_last}
 use Rattle.sampler_laws.proofs.Best.{best, random}
 use Rattle.sampler_laws.proofs.Nothing.{nothing_refused}
-use Rattle.sampler_laws.proofs.Parts.{Well, well}
+use Rattle.sampler_laws.proofs.Parts.{Well, well, ready}
 use Rattle.sampler_laws.proofs.Served.{calls_served}
 use Rattle.sampler_laws.proofs.Ways.{discovering}
 use Rattle.sampler_laws.proofs.WellFormed.{placed, well_formed}
@@ -221,43 +226,74 @@ floats m s c f a e v y = let r = f a e (ParamValue.Float v) y in go r.distributi
 
 -- ---- drawn or decoded
 
-module _ (s : Sampler) (t : Typed s) (d : Asked) (trial : ℕ) (h : List ℕ) (n : is_new s (asks d trial h) ≡ true) (p : Place) (e : held_by (call_of s (asks d trial h)).sampler.places trial ≡ Some p) where
+-- 0.5 is a unit float
+half : unit_of (2 ^ 63) ≡ of_bits binary64 0x3fe0000000000000
+unfolding unit_of of_int div of_bits
+half = refl
+
+module _ (s : Sampler) (g : Well s) (d : Asked) (trial : ℕ) (h : List ℕ) (n : is_new s (asks d trial h) ≡ true) (p : Place) (e : held_by (call_of s (asks d trial h)).sampler.places trial ≡ Some p) where
   abbrev done : Sampler
   done = (call_of s (asks d trial h)).sampler
 
   abbrev dimension : ℕ → DimensionInfo
   dimension j = dimension_at s.dimensions.list j
 
+  abbrev Made : ParamValue → ℕ → Type 0
+  Made v j = MadeFor (dimension j).distribution v
+
+  nonzero : Nonzero s.word
+  nonzero = (ready s g).nonzero
+
   -- a value of the place that a law speaks of is a value of this one
-  here : (q : Place) → held_by done.places trial ≡ Some q → (j : ℕ) → MadeFor (dimension j).distribution (stored_at q j) → MadeFor (dimension j).distribution (stored_at p j)
-  here q f j = let z : q ≡ p = (let w = sym f ∙ e in cc) in subst (λ (x : Place). MadeFor (dimension j).distribution (stored_at x j)) z
+  here : (q : Place) → held_by done.places trial ≡ Some q → (j : ℕ) → Made (stored_at q j) j → Made (stored_at p j) j
+  here q f j = let z : q ≡ p = (let w = sym f ∙ e in cc) in subst (λ (x : Place). Made (stored_at x j) j) z
+
+  at : (q : Place) → held_by done.places trial ≡ Some q → (j w : ℕ) → DrawnFrom (moved_of w s.word) (dimension j).distribution (stored_at q j) → Made (stored_at p j) j
+  at q f j w x = here q f j (drawn (moved_of w s.word) (moved-nonzero w s.word nonzero).1 x)
+
+  -- the decoding of a coordinate that is a word's unit float
+  of-unit : (q : Place) → held_by done.places trial ≡ Some q → (j : ℕ) → j < s.dimensions.count → (w : ℕ) → w < 2 ^ 64 → (u : Float) → u ≡ unit_of w → decode_of (dimension j) u ≡ Ok (stored_at q j) → Made (stored_at p j) j
+  of-unit q f j l w m u z x = here q f j (decoded (dimension j) refl ((ready s g).formed j l).ok w m (subst (λ (y : Float). decode_of (dimension j) y ≡ Ok (stored_at q j)) z x))
 
   -- where no fit is made, after a refused one, and a choice
-  not-by-model : (j : ℕ) → j < s.dimensions.count → (fit_made s h ≡ true → T (continuous_of (dimension j).distribution) → is_ok (fit_answer s h) ≡ true → MadeFor (dimension j).distribution (stored_at p j)) → MadeFor (dimension j).distribution (stored_at p j)
+  not-by-model : (j : ℕ) → j < s.dimensions.count → (fit_made s h ≡ true → T (continuous_of (dimension j).distribution) → is_ok (fit_answer s h) ≡ true → Made (stored_at p j) j) → Made (stored_at p j) j
   not-by-model j l model = go (fit_made s h) (continuous_of (dimension j).distribution) (is_ok (fit_answer s h)) refl refl refl
     where
       r : StoresRandom s done trial h
-      r = random s (asks d trial h) t (passed n)
+      r = random s (asks d trial h) g.typed (passed n)
 
-      go : (f c a : Bool) → fit_made s h ≡ f → continuous_of (dimension j).distribution ≡ c → is_ok (fit_answer s h) ≡ a → MadeFor (dimension j).distribution (stored_at p j)
-      go false c a x y z = here r.place r.held j (drawn _ (r.random x j l))
-      go true false a x y z = here r.place r.held j (drawn _ (r.categories x j l y))
-      go true true false x y z = here r.place r.held j (decoded _ (r.units x z j l (passed y)))
+      go : (f c a : Bool) → fit_made s h ≡ f → continuous_of (dimension j).distribution ≡ c → is_ok (fit_answer s h) ≡ a → Made (stored_at p j) j
+      go false c a x y z = at r.place r.held j _ (r.random x j l)
+      go true false a x y z = at r.place r.held j _ (r.categories x j l y)
+      go true true false x y z =
+          let c = columns_before s j + 1 in
+          of-unit r.place r.held j l (moved_of c s.word) (moved-nonzero c s.word nonzero).1 (unit_of (moved_of c s.word)) refl (r.units x z j l (passed y))
       go true true true x y z = model x (passed y) z
 
   -- the decoding of the best point
-  by-model : (j : ℕ) → j < s.dimensions.count → T (continuous_of (dimension j).distribution) → T (has_model s h) → (r : Result Model Refusal) → fit_answer s h ≡ r → is_ok r ≡ true → MadeFor (dimension j).distribution (stored_at p j)
+  by-model : (j : ℕ) → j < s.dimensions.count → T (continuous_of (dimension j).distribution) → T (has_model s h) → (r : Result Model Refusal) → fit_answer s h ≡ r → is_ok r ≡ true → Made (stored_at p j) j
+  unfolding point_drawn
   by-model j l c o (Ok m) x i =
-      let b = best s (asks d trial h) t.places (passed n) o m x in
-      let stored : (point : List Float) → Stores s done trial point → MadeFor (dimension j).distribution (stored_at p j) = λ point y. here y.place y.held j (decoded _ (y.decoded j l c)) in
-      elim (eq-zero-or-pos s.settings.n_candidates) [ inl z ↦ stored _ (b.none z) | inr q ↦ stored _ (b.found q).stored ]
+      let b = best s (asks d trial h) g.typed.places (passed n) o m x in
+      let k = column-below s.dimensions.list s.dimensions.count j l c in
+      elim (eq-zero-or-pos s.settings.n_candidates) [
+        | inl z ↦
+            let y = b.none z in
+            of-unit y.place y.held j l (2 ^ 63) (lit< tt) _ (get_or-replicate (continuous s) (columns_before s j) (of_bits binary64 0x3fe0000000000000) nan k ∙ sym half) (y.decoded j l c)
+        | inr q ↦
+            let f = b.found q in
+            let words = s.settings.n_candidates * continuous s in
+            let w = get_or (stream_of words s.word) (f.index * continuous s + columns_before s j) 0 in
+            of-unit f.stored.place f.stored.held j l w (stream-small words s.word _ nonzero) _
+            (grown-read (λ (xs : List Float) i. unit_of (get_or (stream_of words s.word) (f.index * continuous s + i) 0)) (continuous s) (columns_before s j) nan k) (f.stored.decoded j l c)
+      ]
   by-model j l c o (Err r) x i = absurd (cc)
 
-  made-values : (j : ℕ) → j < s.dimensions.count → MadeFor (dimension j).distribution (stored_at p j)
+  made-values : (j : ℕ) → j < s.dimensions.count → Made (stored_at p j) j
   made-values j l = not-by-model j l (λ x y z. by-model j l y (unfold has_model in rw (x, z) tt) (fit_answer s h) refl z)
 
-made-for : (s : Sampler) → Typed s → Makes MadeFor s
-made-for s t = record { draws = λ d q f v w. drawn s.word w; values = λ d trial h n p e f. made-values s t d trial h n p e }
+made-for : (s : Sampler) → Typed s → T (sampler_ok s) → Makes MadeFor s
+made-for s t o = record { draws = λ d q f v w. drawn s.word t.word w; values = λ d trial h n p e f. made-values s (well s t o) d trial h n p e }
 
 -- ---- along a run
 
@@ -277,7 +313,7 @@ pub received : Received
 received = record {
   call = λ m s c t o k. call InRange m s t o (in-range s t o) k c;
   run = fresh InRange in-range (Receives InRange) (λ m s c f. f);
-  made = fresh MadeFor (λ s t o. made-for s t) (Receives MadeFor) (λ m s c f. f);
+  made = fresh MadeFor made-for (Receives MadeFor) (λ m s c f. f);
   floats = fresh InRange in-range FloatBetween floats;
   handed_in = λ s t o cs.
       let k : Kept InRange (λ t. in_force s) s = λ u p h. of-dimensions InRange s p (progressed s.dimensions.list s.dimensions.count p (placed s (well s t o) u p h).progress) in

@@ -9,11 +9,12 @@ use Rattle.distribution.specs.Numbers.{FloatDistribution}
 use Rattle.distribution.specs.declared.Distribution.{Distribution}
 use Rattle.distribution.specs.declared.ParamValue.{ParamValue}
 use Rattle.distribution.specs.Range.{in_range}
-use Rattle.common.specs.Decode.{from_internal_of}
-use Rattle.dimensions.specs.Dimensions.{dimension_at}
+use Rattle.dimensions.specs.declared.DimensionInfo.{DimensionInfo}
+use Rattle.dimensions.specs.Dimensions.{dimension_at, dimension_ok}
 use Rattle.settings.specs.declared.Settings.{Settings}
 use Rattle.settings.specs.Settings.{settings_ok}
-use Rattle.proposal.specs.Values.{DrawnFrom}
+use Rattle.rng_util.specs.Draws.{unit_of}
+use Rattle.proposal.specs.Values.{DrawnFrom, decode_of}
 use Rattle.sampler_state.specs.declared.Place.{Place}
 use Rattle.sampler_state.specs.declared.Sampler.{Sampler}
 use Rattle.sampler_state.specs.State.{fresh_of, held_by, stored_at, sampler_ok}
@@ -58,11 +59,12 @@ Holding = Distribution → ParamValue → Type 0
 abbrev pub InRange : Holding
 InRange d v = T (in_range d v)
 
--- "the distribution it was drawn or decoded for": a draw from it at some generator word, or a decoding under it of some
--- number
+-- "the distribution it was drawn or decoded for": a draw from it at a generator word, or the decoding of a word's unit
+-- float for a dimension that has it (0.5 is the unit float of 2 ^ 63)
 pub data MadeFor (d : Distribution) (v : ParamValue) : Type 0 where
-  drawn : (w : ℕ) → DrawnFrom w d v → MadeFor d v
-  decoded : (x : Float) → from_internal_of x d ≡ Ok v → MadeFor d v
+  drawn : (w : ℕ) → w < 2 ^ 64 → DrawnFrom w d v → MadeFor d v
+  decoded : (i : DimensionInfo) → i.distribution ≡ d → T (dimension_ok i)
+      → (w : ℕ) → w < 2 ^ 64 → decode_of i (unit_of w) ≡ Ok v → MadeFor d v
 
 -- P holds of an answered value and the distribution that it is served for
 pub record ReceivedFor (P : Holding) (m : Noted) (s : Sampler) (c : Call) (v : ParamValue) : Type 0 where
