@@ -3,12 +3,12 @@ use Rattle.refusal.specs.declared.Refusal.TheVariants.{OutOfDomain, Settings, Ma
 use Rattle.std.specs.Prelude.{Ok, Err}
 use Rattle.std.proofs.Common.{◌≡◌, ℕ, ◌+◌, ◌*◌, ◌%◌, Bool, true, false, eqb, ltb, List, [], ◌∷◌, length, pos, negsuc, refl}
 use lib.ListN.{get_or}
-use lib.Ieee.{Float, nan, inf, binary64, of_bits, of_int, round, add, mul, neg, lt, le, is_nan}
+use lib.Ieee.{Float, nan, inf, binary64, of_bits, of_int, to_bits, round, add, mul, neg, lt, le, is_nan}
 use Rattle.arith.specs.Bounds.{real, abs, negative, Within, Between, Sign}
 use Rattle.arith.specs.Choice.{at_least, positive_part, lesser_of, least_of_first, least_of}
 use Rattle.arith.specs.Lists.{grown, list_of, filled, padded, every, place_of, places_of}
 use Rattle.arith.specs.Ln2.{H, L}
-use Rattle.arith.specs.Outcome.{value_of, made, pick}
+use Rattle.arith.specs.Outcome.{word_of, value_of, made, pick}
 use Rattle.arith.specs.Rounding.{nearest_of, round_of, floor_of}
 use Rattle.arith.specs.Sums.{sum_over, products, dot_of}
 
@@ -78,15 +78,17 @@ parts = refl
 
 abbrev Answers : Type 0
 Answers =
-    (value_of (Ok (float 1)) ≡ float 1)
+    (word_of (Ok (float 1)) ≡ 0x3ff0000000000000)
+    × (word_of (Err OutOfDomain) ≡ 0)
+    × (value_of (Ok (float 1)) ≡ float 1)
     × (value_of (Err OutOfDomain) ≡ nan)
     × (made neg (Ok plus0) ≡ Ok minus0)
     × (made neg (Err OutOfDomain) ≡ Err OutOfDomain)
     × (pick true (Err Settings) (Err Malformed) ≡ Err Settings)
 
 answers : Answers
-unfolding of_bits of_int round neg
-answers = (refl, refl, refl, refl, refl)
+unfolding of_bits of_int round to_bits neg
+answers = (refl, refl, refl, refl, refl, refl, refl)
 
 -- 2.5 and -2.5, the float below a half, -0.25 and -0, as Rust's round and floor have them
 abbrev Rounded : Type 0

@@ -1,7 +1,12 @@
--- What an answer says beside its number (refusal/specs/Numbers): its value, and what is made of it. Definitions only.
+-- What an answer says beside its number (refusal/specs/Numbers): its word, its value, and what is made of it. Definitions only.
 use Rattle.refusal.specs.declared.Refusal.{Refusal}
-use Rattle.std.specs.Prelude.{Bool, true, false, Float, Result, Ok, Err}
-use Rattle.std.specs.Float.{nan}
+use Rattle.std.specs.Prelude.{ℕ, Bool, true, false, to_bits, Float, Result, Ok, Err}
+use Rattle.std.specs.Float.{nan, binary64}
+
+-- the word of its value, 0 where it is refused
+abbrev pub word_of : Result Float Refusal → ℕ
+word_of (Ok x) = to_bits binary64 x
+word_of (Err r) = 0
 
 -- the value, a NaN where there is none: for answers that a theorem shows to be accepted
 abbrev pub value_of : Result Float Refusal → Float

@@ -6,7 +6,6 @@ ghost use Rattle.distribution.specs.Value.{kind_of, word_of};
 
 pub mod equality;
 mod limits;
-mod numbers;
 pub mod range;
 pub mod shape;
 pub mod taken;

@@ -1,5 +1,5 @@
 // The distribution of six words.
-ghost use Rattle.std.specs.Prelude.{◌≡◌, Some};
+ghost use Rattle.std.specs.Prelude.{◌≡◌, None, Some, MatchOption, IsSomeAnd};
 ghost use Rattle.distribution_words.specs.RoundTrip.{RoundTrip};
 ghost use Rattle.distribution_words.specs.Words.{read_of, checked_of, flags_ok, number_of, only};
 
@@ -40,14 +40,30 @@ fn numbers(w: Words) -> Option<NumberDistribution<u64>>
     }
 }
 
+// The distribution of what f makes of each number.
+fn map<T: Copy, U, F: Fn(T) -> U>(d: NumberDistribution<T>, f: F) -> NumberDistribution<U>
+    requires { F.IsAlwaysCallable f }
+    ensures low { F.post f d.low result.low }
+    ensures high { F.post f d.high result.high }
+    ensures log_scale { result.log_scale ≡ d.log_scale }
+    ensures step { MatchOption d.step (result.step ≡ None) (λ x. IsSomeAnd result.step (F.post f x)) }
+{
+    NumberDistribution {
+        low: f(d.low),
+        high: f(d.high),
+        log_scale: d.log_scale,
+        step: d.step.map(f),
+    }
+}
+
 // The distribution that six words say, or that they are malformed.
 #[tactic(auto, unfolding(crate::specs::Words::read_of))]
 pub fn distribution_of(w: Words) -> Option<Distribution>
     ensures { result ≡ read_of w.kind w.low w.high w.log w.stepped w.step }
 {
     match w.kind {
-        1 => checked(Distribution::Float(numbers(w)?.map(arith::float_of_word))),
-        2 => checked(Distribution::Int(numbers(w)?.map(arith::int_of_word))),
+        1 => checked(Distribution::Float(map(numbers(w)?, arith::float_of_word))),
+        2 => checked(Distribution::Int(map(numbers(w)?, arith::int_of_word))),
         3 if w.high == 0 && w.log == 0 && w.stepped == 0 && w.step == 0 => {
             checked(Distribution::Categorical(CategoricalDistribution { n_choices: w.low }))
         }

@@ -1,10 +1,12 @@
 -- The array of the backward solution: the start of z, then the unknowns that are known, then zeros. Assumes nothing.
 use mathlib.Core.Path.{◌≡◌, refl, sym, ap, ◌∙◌}
-use mathlib.Core.List.{List, ◌∷◌, ◌++◌, append-nil}
+use mathlib.Core.Bool.{Bool, true, false, cond}
+use mathlib.Core.List.{List, [], ◌∷◌, ◌++◌, append-nil}
 use Prim.Native.Nat.{ℕ, zero, suc, ◌+◌, ◌-◌, ◌≤◌, ◌<◌}
 use native.Mathlib.Numerals.{add-one}
 use native.Mathlib.Omega.{arith}
-use borrow.Author.Tests.{le-leb}
+use borrow.Author.Tests.{le-leb, leb-true}
+use lib.Dec.{leb}
 use Rattle.std.specs.Prelude.{Result, Ok}
 use Rattle.refusal.specs.declared.Refusal.{Refusal}
 use lib.ListN.{length, get_or, set, take, length-append, length-take}
@@ -82,8 +84,13 @@ unfolding solution_of
 solution-found l b n h = rw (le-leb n 100 h)
 
 -- it fills its array
-pub solve-length : (l b : List Float) (n : ℕ) → n ≤ 100 → length (solution_of l b n) ≡ 100
-solve-length l b n h = rw (solution-found l b n h) (padded-length 100 (backward_of l (forward_of l b n) n n) (rw (back-length l (forward_of l b n) n n) h))
+pub solve-length : (l b : List Float) (n : ℕ) → length (solution_of l b n) ≡ 100
+unfolding solution_of
+solve-length l b n = cond-length (leb n 100) refl
+  where
+    cond-length : (t : Bool) → leb n 100 ≡ t → length (padded 100 (cond t (backward_of l (forward_of l b n) n n) [])) ≡ 100
+    cond-length true e = padded-length 100 (backward_of l (forward_of l b n) n n) (rw (back-length l (forward_of l b n) n n) (leb-true n 100 e))
+    cond-length false e = padded-length 100 [] (omega arith)
 
 -- and is the answer
 pub solves : (l b : List Float) (n : ℕ) → n ≤ 100 → solve_of l b n ≡ Ok (solution_of l b n)

@@ -2,15 +2,16 @@
 use Rattle.std.specs.Prelude.{Option, None}
 use mathlib.Core.Bool.{Bool}
 use mathlib.Core.List.{List}
-use Prim.Native.Nat.{ℕ, zero, suc, ◌*◌, ◌/◌, ◌%◌, ◌<◌}
+use Prim.Native.Nat.{ℕ, zero, suc, ◌+◌, ◌*◌, ◌/◌, ◌%◌, ◌≤◌, ◌<◌}
 use native.Mathlib.Nat.{div-lt_iff_lt-mul, mod-lt, zero-lt-suc}
 use native.Mathlib.Omega.{arith}
+use mathlib.Core.Path.{◌≡◌}
 use lib.Dec.{T, ltb→lt}
 use lib.ListN.{length, get_or}
 use Rattle.arith.specs.Lists.{places_of}
-use Rattle.arith.proofs.Lists.{every-each, places-at}
+use Rattle.arith.proofs.Lists.{every-each, places-at, row-end}
 use Rattle.history.specs.Cells.{Cells}
-use Rattle.history_rows.specs.Rows.{row_count, row_at}
+use Rattle.history_rows.specs.Rows.{width_of, row_count, row_at}
 use Rattle.history.specs.Training.{mapped_place, covers_of, trains_of, kept_of}
 
 -- place p of a table of d columns is in row p / d, column p % d
@@ -47,6 +48,10 @@ module _ {n m : ℕ} {mapping : List (Option ℕ)} {columns r kept : List ℕ} {
 
   pub cell-found : mapped_place n (row_at n r (get_or kept (p / length columns) 0)) (get_or mapping (get_or columns (p % length columns) 0) None) < n
   cell-found = covered-slot n _ _ (cells.covered (p / length columns) place.0 (p % length columns) place.1)
+
+  -- and that row lies within the words
+  pub cell-inside : length r ≡ m * width_of n → get_or kept (p / length columns) 0 * width_of n + width_of n ≤ length r
+  cell-inside e = let s = row-end (get_or kept (p / length columns) 0) m (width_of n) (cells.row (p / length columns) place.0) in omega arith
 
 -- the rows of m that train
 pub train-cells : (n m : ℕ) (mapping : List (Option ℕ)) (columns r : List ℕ) → ((c : ℕ) → c < length columns → get_or columns c 0 < 20)

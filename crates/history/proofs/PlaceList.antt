@@ -8,7 +8,7 @@ use mathlib.Core.List.{List, [], ◌∷◌}
 use lib.ListN.{length, take, length-append}
 use Rattle.distribution.specs.Shape.{continuous_of}
 use Rattle.arith.specs.Lists.{places_of}
-use Rattle.arith.proofs.Lists.{filled-set-at, filled-take, places-length}
+use Rattle.arith.proofs.Lists.{filled-set-at, filled-take, filled-length, places-length}
 use Rattle.history.specs.declared.Places.{Places}
 use Rattle.dimensions.specs.declared.DimensionInfo.{DimensionInfo}
 use Rattle.dimensions.specs.Dimensions.{dimension_at, columns_of}
@@ -43,3 +43,7 @@ columns-few dims k = places-length k (λ j. continuous_of (dimension_at dims j).
 
 pub places-lent : (p : Places) (xs : List ℕ) → p ≡ places_in xs → take p.count p.at ≡ xs
 places-lent p xs e = rw e (filled-take 0 100 xs)
+
+-- at most 100 of them are within their array
+pub places-fit : (p : Places) (xs : List ℕ) → p ≡ places_in xs → length xs ≤ 100 → (p.count ≤ 100) × (length p.at ≡ 100)
+places-fit p xs e h = rw e (h, filled-length 0 100 xs h)

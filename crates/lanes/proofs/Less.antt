@@ -6,7 +6,8 @@ use native.Mathlib.Nat.{mul-le-mul}
 use native.Mathlib.Omega.{arith}
 use lib.ListN.{get_or}
 use lib.Ieee.{Float, nan, binary64, sub, mul, div}
-use Rattle.factor.specs.Triangle.{less_of}
+use Rattle.factor.specs.Triangle.{at, less_of}
+use Rattle.factor.proofs.Triangle.{size-suc, at_room}
 use Rattle.lanes.specs.Rows.{eight_of}
 use Rattle.lanes.proofs.Rows.{eight-at, eight-same}
 
@@ -27,3 +28,10 @@ module _ (n : ℕ) (x : ℕ → Float) (y : ℕ → ℕ → Float) (b : ℕ → 
 -- a product that fits: twice where a row of the triangle starts
 pub row_start : (i : ℕ) → i < 100 → i * (i + 1) ≤ 9900
 row_start i h = let l : i ≤ 99 = omega arith in let u : i + 1 ≤ 100 = omega arith in mul-le-mul l u
+
+-- entry i of row i + k, and i + 1 + k places on: entry i of the row after it
+pub below-entry : (i k : ℕ) → at (i + k) i + (i + 1 + k) ≡ at (i + 1 + k) i
+below-entry i k = let e : i + 1 + k ≡ suc (i + k) = omega arith in rw e (omega (arith, size-suc (i + k)))
+
+pub below-room : (i k m : ℕ) {place : ℕ} → i + m < 100 → k < m → place ≡ at (i + k) i → place + (i + 1 + k) < 5050
+below-room i k m h g e = rw (e, below-entry i k) (at_room (i + 1 + k) i (omega arith) (omega arith))

@@ -1,6 +1,7 @@
 // The leaves of `history`: the number of slots, in `mapping` and `training` the number of dimensions and six words for
 // each, then a history.
 // A line with fewer words than its dimensions have is none of these; over 20 dimensions or a malformed one are 11.
+// Two of them have large arrays and are not inlined, as those of `model`.
 ghost use Rattle.std.specs.Prelude.{◌≤◌, length};
 
 use crate::codings;
@@ -83,6 +84,7 @@ fn put_ids(ids: &[Option<u64>], results: &mut Results)
     }
 }
 
+#[inline(never)]
 pub(crate) fn mapping(args: &[u64], results: &mut Results) -> Reply {
     let q = read_query(args)?;
     let ids = param_mapping::establish_param_mapping(q.slots, q.dims, q.history)?;
@@ -116,6 +118,7 @@ fn put_training(t: Training, results: &mut Results) -> Reply {
     Ok(Written { words: end })
 }
 
+#[inline(never)]
 pub(crate) fn training(args: &[u64], results: &mut Results) -> Reply {
     let q = read_query(args)?;
     let t = history::build_training_data(q.slots, q.dims, q.history)?;

@@ -101,6 +101,8 @@ fn calls(s: Sampler, words: &[u64], results: &mut Results) -> Reply
     Ok(Written { words })
 }
 
+// Not inlined, as the leaves of `model`: a sampler is large.
+#[inline(never)]
 pub(crate) fn run(args: &[u64], results: &mut Results) -> Reply {
     let [startup, candidates, noise, seed, slots, words @ ..] = args else {
         return Err(Failure::Unreadable);

@@ -1,5 +1,5 @@
 mod Cases
 pub mod RootSign
-mod RootWhole
-mod SqrtLaws
+pub mod RootWhole
+pub mod SqrtLaws
 mod StdRoot
